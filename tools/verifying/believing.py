@@ -4,7 +4,7 @@ changes something is not skipped, and any value is another one than before.
 Such runs are those of a changed file. Wherever a specification gives instances, an assumption stands behind it that opens each of them
 once, as `assume unfolding list(x) in true`. It takes no choice of a run, so a run of the changed file is one of the file itself."""
 from .contents import spelled
-from .meaning import Blocks, Fails, Scene
+from .meaning import LEAVES, Blocks, Fails, Meaning, Scene
 from .origins import Origins
 from .references import Names
 from .running import rerun
@@ -13,45 +13,69 @@ from .stand_ins import Spelling
 from .terms import Statement, Term, nodes_of
 from .trying import Changed, Insertion, Trials
 from .units import Failure
-from .values import NONE, Ref
+from .values import NONE, UNIT, Ref
+from .walk import DEFAULTS
 from .wording import Atoms
 
 PART = 0.6          # of the time that is left, for one way to ask
 LONG = 2000         # the most characters of a term that is spelled
 GONE = "?"          # stands for a term that may have another value behind a call
+WITHIN = ("begin", "requires", "ensures", "body", "end", "turn", "while", "if")     # steps in front of which no statement can stand
 MOST_PAIRS = 10     # so many pairs of parameters are taken to be different
 
 
+class Loose(Meaning):
+    """Opens instances of which a content says nothing: their numbers are 0 then, and their references null."""
+
+    def fill(self, node, content, state, scene, scale):
+        super().fill(node, ("pair", UNIT, UNIT) if content == UNIT and self.sign(node) == "&&" else content, state, scene, scale)
+
+    def fill_place(self, place, content, state):
+        base = LEAVES[self.types[place[0]]]
+        super().fill_place(place, ("leaf", base, DEFAULTS[base]) if content == UNIT else content, state)
+
+
 class Doubts:
-    """What of a run cannot be believed: `of` names the first instance that its body rules out, or gives `` where there is none."""
+    """What of a run cannot be believed: `instance` finds the first instance that its body rules out, or None where there is none."""
 
     def __init__(self, again):
         self.again, self.meaning = again, again.meaning
+        self.loose = Loose(again.source, None)
 
     def instance(self):
-        """The first instance that is held somewhere and that cannot be opened, and the step behind which that is."""
+        """The first instance that is held somewhere and that cannot be opened, the step behind which that is, and None; or one that
+        stands inside of such an instance, with that one in the third place."""
         seen = set()
         for step in self.again.steps:
             state = (step.before if step.fault else step.after).state
             for instance, _ in state.instances():
                 key = instance, state.inside(instance)
-                if key not in seen and not self.opens(instance, state):
-                    return instance, step
+                found = self.ruled_out(instance, state) if key not in seen else None
+                if found is not None:
+                    return found, step, None if found == instance else instance
                 seen.add(key)
         return None
 
-    def opens(self, instance, state):
-        """Whether an instance alone can be opened, so that no place of it leads to itself."""
+    def ruled_out(self, instance, state):
+        """An instance that its body rules out, or the first one that stands in it and is ruled out by its own; or None."""
+        opened = self.opened(instance, state, self.meaning)
+        if opened is None:
+            return instance
+        return next((it for it, _ in opened.instances() if self.opened(it, opened, self.loose) is None), None)
+
+    def opened(self, instance, state, meaning):
+        """What stands in an instance, or None where it cannot be opened, or where a place of it leads to itself."""
         unit = self.again.source.declared[instance[0]]
-        if unit.brace is None:
-            return True
-        body, names = self.meaning.body(instance[0])
         opened = type(state)(state.types)
+        if unit.brace is None:
+            return opened
+        body, names = self.meaning.body(instance[0])
         try:
-            self.meaning.fill(body, state.inside(instance), opened, Scene(dict(zip(names, instance[1])), None, unit.word), NONE + 1)
+            meaning.fill(body, state.inside(instance), opened, Scene(dict(zip(names, instance[1])), None, unit.word), NONE + 1)
         except (Fails, Blocks):
-            return False
-        return not any([isinstance(opened.value(it), Ref) and opened.value(it) == it[1] for it, _ in opened.places()])
+            return None
+        leads = any([isinstance(opened.value(it), Ref) and opened.value(it) == it[1] for it, _ in opened.places()])
+        return None if leads else opened
 
     def has_aliases(self):
         """Whether two parameters are one object."""
@@ -143,6 +167,16 @@ class Assumptions:
             found += [self.in_front(step, f"var {name}{n}: {type_} := {text}"), Insertion(end, end, f" assume {text} != {name}{n}")]
         return found
 
+    def children(self):
+        """That references are there which are null in the run, where an instance of them is missing and another one is held."""
+        fault, step = self.again.fault, self.again.steps[-1]
+        if fault.kind != "perm" or isinstance(fault.thing[1], int) or step.kind in WITHIN or \
+                not any([it[0] == fault.thing[0] for it, _ in fault.left.instances()]):
+            return []
+        nulls = [it for it, value in zip(fault.node.parts, fault.thing[1]) if isinstance(value, Ref) and value == 0]
+        texts = [self.spelling.of(it, fault.scene, LONG) for it in nulls]
+        return [self.in_front(step, f"assume {it} != null") for it in texts if "." in it and "old(" not in it]
+
     def in_front(self, step, text):
         start = self.source.tokens[step.first].start
         return Insertion(start, start, f"{text} ")
@@ -221,18 +255,19 @@ class Assumptions:
     def reads_old(self, node):
         return any([it.kind == "old" for it, _ in nodes_of(node)])
 
-    def instance(self, node, scene):
-        """The term that opens an instance, or nothing."""
+    def instance(self, node, scene, depth=1, scale="write"):
+        """The term that opens an instance of which so much is held as a part of a body, and those in it up to a depth; or nothing."""
         call = node.parts[0] if node.kind == "acc" else node
         unit = self.source.declared.get(self.source.said(call.at)) if call.kind == "call" else None
         if unit is None or unit.brace is None or self.meaning.is_wildcard(node):
             return ""
         amount = self.text(node.parts[1], scene) if node.kind == "acc" and len(node.parts) > 1 else "write"
+        amount = amount if scale == "write" else scale if amount == "write" else f"({scale}) * ({amount})"
         inner = Scene({}, None, call.at, dict(zip([it.name for it in unit.parameters()], call.parts)), scene or Scene({}, None, call.at))
-        return f"(({amount}) > none ==> unfolding acc({self.text(call, scene)}, {amount}) in {self.apart(unit, inner)})"
+        return f"(({amount}) > none ==> unfolding acc({self.text(call, scene)}, {amount}) in {self.apart(unit, inner, depth, amount)})"
 
-    def apart(self, unit, scene):
-        """That no place of a body leads to its own object."""
+    def apart(self, unit, scene, depth, amount):
+        """That no place of a body, of which an amount is held, leads to its own object, and that the instances in it can be opened."""
         found, todo = [], [(Term(self.source, unit.brace + 1).node, [])]
         while todo:
             node, under = todo.pop()
@@ -244,6 +279,9 @@ class Assumptions:
             elif node.kind == "acc" and node.parts[0].kind == "field" and len(node.parts) == 1 and self.is_reference(node.parts[0]):
                 place, receiver = (self.text(it, scene) for it in (node.parts[0], node.parts[0].parts[0]))
                 found.append(f"({' ==> '.join([*under, f'{place} != {receiver}'])})")
+            elif node.kind in ("acc", "call") and depth > 0:
+                text = self.instance(node, scene, depth - 1, amount)
+                found += [f"({' ==> '.join([*under, text])})"] if text else []
         return " && ".join(found) if found else "true"
 
     def is_reference(self, node):
@@ -281,12 +319,16 @@ def believable(examiner, source, failure: Failure) -> Failure:
 def ways_of(doubts, assumptions):
     """The insertions of the files of which a run is asked for, one after the other: with all that is doubted, and with less."""
     cannot_open, has_aliases, values = doubts.instance() is not None, doubts.has_aliases(), doubts.open_values()
-    if not (cannot_open or has_aliases or doubts.skips() or any([is_same for *_, is_same in values])):
+    is_doubted = cannot_open or has_aliases or doubts.skips() or any([is_same for *_, is_same in values])
+    children = assumptions.children()
+    if not (is_doubted or children):
         return []
-    opened = assumptions.all() if cannot_open or has_aliases else []
+    opened = assumptions.all() if cannot_open or has_aliases or children else []
     apart = assumptions.different() if opened or has_aliases else []
     loops, changing = assumptions.iterating(doubts.loops()), assumptions.changing(values)
-    found = [[*opened, *apart, *loops, *changing], [*opened, *apart, *loops], [*opened, *apart], opened if cannot_open else [], loops]
+    found = [[*opened, *apart, *loops, *changing, *children]] if children else []
+    if is_doubted:
+        found += [[*opened, *apart, *loops, *changing], [*opened, *apart, *loops], [*opened, *apart], opened if cannot_open else [], loops]
     return [it for n, it in enumerate(found) if it and it not in found[:n]]
 
 
@@ -308,5 +350,7 @@ def unopened(again):
     found = Doubts(again).instance()
     if found is None:
         return ""
-    names = Names(again.visible(found[1]))
-    return f"{spelled(found[0], names)} is held in this run although its body rules it out: no step opens it"
+    instance, step, outer = found
+    names = Names(again.visible(step))
+    held = f"is in {spelled(outer, names)}" if outer else "is held"
+    return f"{spelled(instance, names)} {held} in this run although its body rules it out: no step opens it"

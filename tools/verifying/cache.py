@@ -19,7 +19,7 @@ FOLDERS = 64
 ROOM = 2 << 20      # bytes of entries in a folder
 LARGEST = 32 << 20  # bytes of an entry that is unpacked
 STALE = 3600        # seconds after which a file that was not renamed is nobody's
-FORM = "1"          # of an entry, and of what it is known by
+FORM = "2"          # of an entry, of what it is known by, and of how runs are chosen
 LABEL = re.compile(r'(?<=\{:msg ")(\d+:\d+) (\d+:\d+)(?= \w+"\})')
 OPENING, CHOICE, FILLING = ("var", "heap", "content"), ("pick", "value", "amount", "fresh", "state"), ("heap", "content")
 OF_BOOGIE = ("var", "entries", "at", "pick", "value")

@@ -68,6 +68,17 @@ class Changes(Lines):
         column = self.source.tokens[unit.word].column + 2
         return self.behind((own or others or [head])[-1], f"{word} {text}", column)
 
+    def clause_words(self, unit, word, text):
+        """A clause of a contract in words, with the line behind which it has to stand, as it reads what clauses before it give."""
+        at = self.clause(unit, word, text).start
+        is_first = not self.again.contract(unit, word) and not self.again.contract(unit, "requires")
+        where = "" if is_first or "." not in text or not self.ends_line(at) else f" behind line {place_in(self.source.data, at)[0]}"
+        return f"`{word} {text}` of `{unit.name}`{where}"
+
+    def ends_line(self, at):
+        """Whether nothing but blanks stands behind a place in its line."""
+        return not self.source.data[at:].split(b"\n", 1)[0].strip()
+
     def invariant(self, step, text):
         """An invariant of a loop, behind those that are there."""
         brace = step.last + 1
@@ -228,7 +239,7 @@ class Changes(Lines):
             locals_ = self.assigned(node)
             said = self.condition(kind, locals_) if locals_ else condition
             if locals_ is not None and (locals_ or self.is_of_parameters(node)):
-                yield Change(f"`requires {said}` of `{self.unit.name}`", (self.clause(self.unit, "requires", said),))
+                yield Change(self.clause_words(self.unit, "requires", said), (self.clause(self.unit, "requires", said),))
 
     def assigned(self, node):
         """For the locals that a term names the terms of parameters that were assigned to them, or None where one has no such term."""
@@ -273,7 +284,7 @@ class Changes(Lines):
                 for variable, value in self.arguments(step, unit):
                     if value == place[1]:
                         said = f"{variable}.{place[0]} == old({variable}.{place[0]})"
-                        yield Change(f"`ensures {said}` of `{unit.name}`", (self.clause(unit, "ensures", said),),
+                        yield Change(self.clause_words(unit, "ensures", said), (self.clause(unit, "ensures", said),),
                                      (unit.name,) if unit.brace is not None else ())
 
     def content_told(self, step, unit, atoms):
@@ -292,7 +303,8 @@ class Changes(Lines):
                 text = f"{instance[0]}({', '.join(names[:-1])})" if held == 1 else f"acc({instance[0]}({', '.join(names[:-1])}), {amount(held)})"
                 read = f"unfolding {text} in {names[-1]}.{place[0]}"
                 said = f"({read}) == old({read})"
-                yield Change(f"`ensures {said}` of `{unit.name}`", (self.clause(unit, "ensures", said),), (unit.name,) if unit.brace is not None else ())
+                yield Change(self.clause_words(unit, "ensures", said), (self.clause(unit, "ensures", said),),
+                             (unit.name,) if unit.brace is not None else ())
 
     def arguments(self, step, unit):
         """The parameters of a called method that are references, with their values."""

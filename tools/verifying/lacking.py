@@ -1,4 +1,6 @@
 """What of permission a step needed and what was held, where a run fails for lack of it."""
+import re
+
 from .contents import spelled
 from .failures import instance_of
 from .meaning import Blocks, Fails, Scene
@@ -6,7 +8,7 @@ from .origins import Origins
 from .references import Names
 from .stand_ins import Spelling
 from .terms import Term, nodes_of
-from .values import NONE, Ref, amount
+from .values import NONE, Ref, amount, word
 from .withheld import Withheld
 from .wording import Atoms, valued
 
@@ -42,7 +44,7 @@ class Lacking:
         missing = f", so {amount(fault.needed - held)} is missing" if fault.needed is not None and held > 0 else ""
         lines = [f"{needs}; held: {amount(held)}{missing}", *self.behind()]
         lines += self.taken(held, is_place) or self.inside(is_place) or self.takers(is_place) or self.withheld()
-        return lines + (self.not_made(len(lines)) if is_place else self.not_folded(len(lines)) + self.similar())
+        return lines + (self.not_made(len(lines)) if is_place else self.not_folded(len(lines)) + self.similar(len(lines)))
 
     def not_made(self, known):
         """That the `new` that made an object gave no permission to the field, where nothing else is known."""
@@ -59,9 +61,10 @@ class Lacking:
         while todo:
             it = todo.pop()
             todo += reversed(it.parts) if self.meaning.sign(it) == "&&" else []
-            name = self.source.said(it.parts[0].parts[0].at) if it.kind == "acc" and it.parts[0].kind == "field" else ""
-            if name in values and values[name] == 0 and isinstance(values[name], Ref) and len(it.parts) == 1:
-                return [f"no state holds {self.instance()}: its body has {self.source.spelled(it.first, it.last)}, and {name} is null"]
+            place = it.parts[0] if it.kind == "acc" and it.parts[0].kind == "field" else None
+            value = values.get(self.source.said(place.parts[0].at)) if place is not None else None
+            if isinstance(value, Ref) and value == 0 and len(it.parts) == 1:
+                return [f"no state holds {self.instance()}: its body would have acc(null.{self.source.said(place.at)})"]
         return [f"the body of {self.instance()} is held, and not folded"] if self.body_taken() else []
 
     def can_fold(self):
@@ -90,7 +93,9 @@ class Lacking:
         lines = [f"acc({text}) comes only behind it, at {self.place(it.parts[0].start)}" for it in self.later()[:1]]
         if not lines and step.kind in ("requires", "body"):
             lines.append(f"nothing in front of it gives acc({text})")
-        return lines + ["a postcondition is checked by itself: what the precondition gives does not count"] * (step.kind == "ensures")
+        is_old = self.fault.state is self.fault.scene.old
+        alone = ["a postcondition is checked by itself: what the precondition gives does not count"]
+        return lines + alone * (step.kind == "ensures" and not is_old)
 
     def later(self):
         """The parts of the same clause behind what fails that would give it."""
@@ -178,10 +183,16 @@ class Lacking:
                 break
         found.reverse()
         if not any([much < 0 for _, much, _ in found]):
-            return self.of_guard()
+            return self.givers(found) or self.of_guard()
         if len(found) == 1 or found and all([much < 0 for _, much, _ in found[:-1]]) and found[-1][0].kind == "while":
             return [self.taker(*found[-1], is_place)]
         return [self.history(found)]
+
+    def givers(self, found):
+        """That one step gave all that is held."""
+        how = {"fold": "made", "unfold": "gave", "inhale": "gave"}
+        steps = [(step, much) for step, much, left in found if step.kind in how and much == left] if len(found) == 1 else []
+        return [f"{self.origins.words(step)} at {self.place(step.first)} {how[step.kind]} only {amount(much)}" for step, much in steps]
 
     def taker(self, step, much, left, is_place):
         """That one step took it."""
@@ -226,21 +237,36 @@ class Lacking:
             last = words, how
         return "; ".join(lines)
 
-    def similar(self):
-        """Instances of the same predicate that are held, those first that have the same first argument."""
-        name, arguments = self.fault.thing
-        first = [self.text(it) for it in self.fault.node.parts[:1]]
-        found = [(it, held, self.named(it)) for it, held in self.fault.left.instances() if it[0] == name and it != self.fault.thing]
-        found.sort(key=lambda it: ([word for word, _ in it[2][:1]] != first, it[0][1][:1] != arguments[:1]))
-        told = []
-        for it, held, terms in found[:MOST_HELD]:
-            value, much = spelled(it, self.names), "" if held == 1 else f", {amount(held)}"
-            told.append(f"held: {terms[0][1]}, which is {value}{much}" if terms and terms[0][1] != value else f"held: {value}{much}")
-        return told
+    def similar(self, known):
+        """Instances of the same predicate that are held: those that come closest, by their first argument. Those of others are told
+        where nothing else is known."""
+        found = [(self.nearness(it), it, held) for it, held in self.fault.left.instances() if it[0] == self.fault.thing[0] and it != self.fault.thing]
+        least = min([near for near, *_ in found], default=0)
+        return [self.instead(it, held, near) for near, it, held in found if near == least and (near < 2 or known == 1)][:MOST_HELD]
+
+    def nearness(self, instance):
+        """How near an instance comes: 0 where its first argument is written alike, 1 where it has the same value, 2 else."""
+        if instance[1][:1] != self.fault.thing[1][:1]:
+            return 2
+        return int(self.named(instance)[:1] != [self.text(it) for it in self.fault.node.parts[:1]])
+
+    def instead(self, instance, held, near):
+        """That an instance is held, and which of its arguments are others than those that are needed."""
+        terms, much = self.named(instance), "" if held == 1 else f", {amount(held)}"
+        given = terms or [self.names.value(it) for it in instance[1]]
+        said = f"{instance[0]}({', '.join(given)})"
+        if near == 2:
+            value = spelled(instance, self.names)
+            return f"held besides: {said}{'' if said == value else f', which is {value}'}{much}"
+        names = [it.name for it in self.source.declared[instance[0]].parameters()]
+        asked = [self.text(it) for it in self.fault.node.parts]
+        pairs = zip(names, given, instance[1], asked, self.fault.thing[1])
+        others = [f"its `{name}` is {told(text, value)}, and {told(other, needed)} is asked for"
+                  for name, text, value, other, needed in pairs if value != needed]
+        return f"held instead: {said}{much}: {'; '.join(others)}"
 
     def named(self, instance):
-        """The terms by which an `unfold` gave an instance: of each its first argument and the whole."""
-        found = []
+        """The arguments of the first term by which an `unfold` gave an instance, if its variables have the same values now."""
         for step in self.steps[:-1]:
             if step.kind == "unfold" and step.after.state.held_of(instance) > step.before.state.held_of(instance):
                 call = instance_of(step.terms[0])
@@ -248,8 +274,14 @@ class Lacking:
                 scene = self.meaning.inside(opened, call, Scene(step.before.vars, self.running.old, step.first))
                 for node, _ in nodes_of(self.meaning.body(opened[0])[0]):
                     if node.kind == "call" and node.parts and self.is_named(node, instance, step.after.state, scene):
-                        found.append((self.spelling.of(node.parts[0], scene), self.spelling.of(node, scene)))
-        return found
+                        texts = [self.spelling.of(it, scene) for it in node.parts]
+                        return [] if self.is_past(step, " ".join(texts)) else texts
+        return []
+
+    def is_past(self, step, text):
+        """Whether a variable that a text names has another value now than in front of a step."""
+        return any([self.running.vars.get(name) != value and re.search(rf"(?<![.\w$]){re.escape(name)}(?![\w$])", text)
+                    for name, value in step.before.vars.items()])
 
     def is_named(self, node, instance, state, scene):
         try:
@@ -284,3 +316,8 @@ class Lacking:
         except (Fails, Blocks):
             return None
         return state
+
+
+def told(text, value):
+    """A term with its value, where that is another word."""
+    return text if text == word(value) else f"{text} (= {word(value)})"

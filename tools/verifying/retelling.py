@@ -32,7 +32,7 @@ class Retold:
     def heading(self):
         """What stands above the steps."""
         step = self.again.steps[-1] if self.again else None
-        checked = {"body": "the body", "ensures": "the postcondition"}.get(step.kind if step else "")
+        checked = {"body": "the body", "requires": "the precondition", "ensures": "the postcondition"}.get(step.kind if step else "")
         return f"Checking {checked} of `{self.run.unit}` fails there:" if checked else f"This run of `{self.run.unit}` fails there:"
 
     def rows(self):

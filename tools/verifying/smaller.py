@@ -8,6 +8,7 @@ SECONDS = 0.6       # of the processor, for one run
 ROUNDS = 3
 INTS = (0, 1, 2, -1, 3, -2, 5, 10)
 MOST_PARTS = 64     # so many parts of a content are looked at
+MOST_CHILDREN = 6   # and so many that may hold what a reference leads to
 UNIT = ("unit",)
 FRESH = 1 << 40     # objects from here on are none of those that z3 names
 REALS = (Fraction(0), Fraction(1), Fraction(1, 2))
@@ -51,15 +52,20 @@ def rank(value):
 
 def moved(values, by):
     """Values with all integers greater by a number, also those in keys and contents."""
+    ints = {n: by for n, (keys, base) in enumerate(values.types) if base == "int" and not keys}
+    return mapped(Values(values.types, {**{n: 0 for n in ints}, **values.scalars}, values.tables), lambda it: it + by)
+
+
+def mapped(values, changed):
+    """Values with all integers that are there changed, also those in keys and contents."""
     def one(value, base):
         if base == "Snap":
             return ("pair", one(value[1], base), one(value[2], base)) if value[0] == "pair" else \
                 ("leaf", value[1], one(value[2], value[1])) if value[0] == "leaf" else value
-        return value + by if base == "int" else value
+        return changed(value) if base == "int" else value
 
     types = values.types
-    ints = {n: by for n, (keys, base) in enumerate(types) if base == "int" and not keys}
-    scalars = {**ints, **{n: one(it, types[n][1]) for n, it in values.scalars.items()}}
+    scalars = {n: one(it, types[n][1]) for n, it in values.scalars.items()}
     tables = {n: {tuple([one(part, it) for part, it in zip(key, types[n][0])]): one(value, types[n][1]) for key, value in table.items()}
               for n, table in values.tables.items()}
     return Values(types, scalars, tables)
@@ -84,7 +90,7 @@ class Smaller:
         self.iterations()
         for _ in range(ROUNDS):
             self.leave_out()
-            changed = any([self.smaller_tables(), self.simpler_scalars(), self.simpler_places()])
+            changed = any([self.smaller_tables(), self.simpler_scalars(), self.simpler_places(), self.simpler_keys()])
             if not changed or self.late():
                 break
         self.objects()
@@ -98,10 +104,18 @@ class Smaller:
             self.all_or_none(moved(self.values, -least))
 
     def all_or_none(self, values):
-        """Takes other values if the run fails as before."""
+        """Takes other values if the run fails as before, and says whether it does."""
         old, self.values = self.values, values
         if self.late() or not self.fails():
             self.values = old
+        return self.values is values
+
+    def simpler_keys(self):
+        """Makes integers in keys simpler, and all that equal them alike."""
+        types, tables = self.values.types, self.values.tables
+        found = {part for n, table in tables.items() for key in table for part, base in zip(key, types[n][0]) if base == "int"}
+        return any([any(self.all_or_none(mapped(self.values, lambda it, old=old, to=to: to if it == old else it)) for to in simpler(old, "int"))
+                    for old in sorted(found)])
 
     def iterations(self):
         """Goes into a loop where the run fails in front of its body, and in what is behind it alike; and has amounts within write."""
@@ -203,14 +217,17 @@ class Smaller:
         changed = False
         for n, table in self.values.tables.items():
             for key in list(table):
-                changed = self.simplified(table, key, self.values.types[n][1]) or changed
+                keys, base = self.values.types[n]
+                others = [it for it, type_ in list(zip(key, keys))[1:] if type_ == "Ref" and it]
+                changed = self.simplified(table, key, base, others) or changed
         return changed
 
-    def simplified(self, table, key, base):
+    def simplified(self, table, key, base, others=()):
         if key not in table:
             return False
         if base == "Snap":
-            return self.simpler_content(table, key)
+            changed = self.simpler_content(table, key)
+            return self.without_children(table, key, others) or changed
         return any(self.attempt(table, key, it) for it in simpler(table[key], base))
 
     def simpler_content(self, table, key):
@@ -230,6 +247,31 @@ class Smaller:
             elif part[0] == "pair":
                 todo += [(*path, 2), (*path, 1)]
         return changed
+
+    def without_children(self, table, key, others):
+        """Makes references in a content null, or another reference of its instance, each together with the part of what it leads to. One
+        stays where permission is missing."""
+        changed, seen = False, set()
+        while key in table and not self.late():
+            paths = [path for path, it in parts_of(table[key]) if it[:2] == ("leaf", "Ref") and it[2] not in (0, *others)]
+            path = next((it for it in paths if it not in seen), None)
+            if path is None:
+                break
+            seen.add(path)
+            wanted = others if len(paths) == 1 and self.label.endswith("perm") else (0, *others)
+            parts = [it for it, part in parts_of(table[key]) if part[0] == "pair" and it != path[:len(it)]][:MOST_CHILDREN]
+            tried = [with_part(with_part(table[key], path, ("leaf", "Ref", to)), it, UNIT) for to in wanted for it in parts]
+            changed = any(self.attempt(table, key, it) for it in tried) or changed
+        return changed
+
+
+def parts_of(value):
+    """The parts of a content with their paths, those first that lie outermost."""
+    found = [((), value)]
+    for path, it in found:
+        if it[0] == "pair" and len(found) < MOST_PARTS:
+            found += [((*path, side), it[side]) for side in (1, 2)]
+    return found
 
 
 def part_at(value, path):

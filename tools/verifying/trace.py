@@ -84,6 +84,8 @@ class Trace:
     def __init__(self, running):
         self.running, self.source, self.meaning = running, running.source, running.meaning
         self.order = {name: n for n, name in enumerate(self.meaning.types)}
+        last = running.steps[-1]
+        self.is_alone = last.kind == "ensures" and last.fault is not None and last.fault.kind == "perm" and last.fault.state is not running.old
 
     def rows(self, is_data):
         """The rows of all steps but those that are a specification that says nothing of what is held. For people they have no data."""
@@ -105,6 +107,7 @@ class Trace:
         changes = changes_of(step, self.order)
         names = Names(self.running.visible(step), [source.said(n) for n in range(step.first, step.last + 1)])
         text = self.failing(step, names) if step.fault else Telling(self.running, names, step).text(changes)
+        text = "its permission does not count here" if text and step.kind == "requires" and self.is_alone else text
         data = ([self.change_data(it) for it in changes], self.state_data(step)) if is_data else ([], {})
         spelled = source.spelled(step.first, step.last, MOST_SOURCE)
         return Row(first.line, first.column, last.line, last.column + len(last.text), spelled, text, *data)
@@ -171,15 +174,25 @@ class Telling:
         """All that changed, or that nothing had to."""
         others = [it for it in changes if it.kind != "variable"]
         quiet = self.step.kind in ("fold", "unfold")
-        lost = [self.names.thing(it.kind, it.thing) for it in others if it.lost() and it.held == 1 and not quiet]
+        lost = [it for it in others if it.lost() and it.held == 1 and not quiet]
         gained = [self.gained(it) for it in others if it.gained()]
         parts = [self.variables(changes)]
         parts += [self.written()] if self.step.kind == "assign" and not self.step.targets else [self.any(it) for it in others if it.other()]
-        parts += [f"takes {', '.join(lost)}" if lost else ""]
+        parts += self.lost(lost)
         parts += [self.more(it) for it in others if it.held != it.now and not it.gained() and not (it.lost() and (it.held == 1 or quiet))]
         gives = self.step.kind in GIVES or any([it.startswith("takes ") for it in parts])
         parts += [("gives " if gives else "") + "; ".join(gained) if gained else ""]
         return "; ".join([it for it in parts if it]) or self.nothing()
+
+    def lost(self, changes):
+        """What is no longer held: it was taken, or stays outside of an iteration."""
+        outside, taken = ([self.names.thing(it.kind, it.thing) for it in changes if self.stays_outside(it) == way] for way in (True, False))
+        return [f"takes {', '.join(taken)}" if taken else "", f"{', '.join(outside)} stay{'s' * (len(outside) == 1)} outside" if outside else ""]
+
+    def stays_outside(self, change):
+        """Whether an iteration has of a thing what the invariants took, so that the rest stays outside."""
+        taken = sum([much for thing, much, *_ in self.step.takes if thing == change.thing])
+        return self.step.kind == "while" and self.step.way == "turn" and taken == change.now
 
     def nothing(self):
         """What is told where nothing changed: what was taken and given back, why nothing is given, or that it holds."""
@@ -256,6 +269,8 @@ class Telling:
     def more(self, it):
         """A place or an instance of which more is held, or less."""
         change, name = it.now - it.held, self.names.thing(it.kind, it.thing)
+        if change < 0 and self.stays_outside(it):
+            return f"{amount(-change)} of {name} stays outside"
         if change < 0:
             return f"takes {amount(-change)} of {name}, {amount(it.now)} is left"
         return f"gives {amount(change)} of {name}, {amount(it.now)} is held"

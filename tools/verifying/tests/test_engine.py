@@ -141,6 +141,19 @@ havoc s; havoc l; havoc r; assume (s == sPair(l, r)); havoc w; assume (l == sInt
         found = Smaller(opened, Values(types, {4: ("pair", ("leaf", "int", 50), inner)}, {}), "1:1 1:2 false").found()
         self.assertEqual(found.scalars, {4: ("pair", ("leaf", "int", 3), ("unit",))})
 
+    def test_a_reference_in_a_content_gives_way_with_what_it_leads_to(self):
+        text = """procedure p() { var v$x: Ref; var v$y: Ref; var c: [Ref, Ref]Snap; assert {:msg "1:1 1:2 false"} (v$x == null); }"""
+        read = read_procedure(text)
+        for left, more in ((0, ("leaf", "Ref", 4)), (2, ("unit",))):
+            content = ("pair", ("leaf", "Ref", 3), ("pair", ("pair", ("leaf", "int", 5), ("unit",)), more))
+            values = Values(list(conditions_of(read).vars.values()), {0: 1, 1: 2}, {2: {(1, 2): content}})
+            small = Smaller(read, values, "1:1 1:2 perm")
+            wanted, table = ("pair", ("leaf", "Ref", left), ("pair", ("unit",), more)), small.values.tables[2]
+            small.fails = lambda table=table, wanted=wanted: table[1, 2] == wanted
+            self.assertTrue(small.without_children(table, (1, 2), [2]))
+            self.assertEqual(table[1, 2], wanted)
+            self.assertFalse(small.without_children(table, (1, 2), []))
+
     def test_a_loop_is_entered_and_what_is_given_are_objects(self):
         text = """procedure p() { var v$x: Ref; var v$y: Ref; var v$p: real; var v$q: real; var v$i: Ref; var h: [Ref]Ref;
 assume (v$p > 0.0); assume (v$q > v$p); havoc v$i; if (*) { assert {:msg "1:1 1:2 false"} (h[v$x] == null); } else {
@@ -150,6 +163,13 @@ assert {:msg "1:1 1:2 false"} (h[v$x] == null); } v$i := null; }"""
         found = Smaller(read, values, "1:1 1:2 false").found()
         self.assertEqual(found.scalars, {0: 7, 1: FRESH + 1, 2: Fraction(1, 2), 3: Fraction(1), 6: 7, 7: True})
         self.assertEqual(found.tables, {5: {(7,): 12}})
+
+    def test_integers_in_keys_are_made_simpler_with_all_that_equal_them(self):
+        text = """procedure p() { var v$a: int; var c: [int]int; assert {:msg "1:1 1:2 false"} ((c[v$a] < v$a) || (v$a < 2)); }"""
+        read = read_procedure(text)
+        values = Values(list(conditions_of(read).vars.values()), {0: 40}, {1: {(40,): 40}})
+        found = Smaller(read, values, "1:1 1:2 false").found()
+        self.assertEqual((found.scalars, found.tables), ({0: 2}, {1: {(2,): 2}}))
 
     def test_integers_are_moved_until_none_is_negative(self):
         text = """procedure p() { var v$a: int; var v$b: int; var c: [int]Snap; var s: Snap; var w: int;

@@ -141,13 +141,13 @@ class Offered(unittest.TestCase):
 
     def test_what_the_callee_should_say(self):
         method = "method id(x: Ref) requires acc(x.f) ensures acc(x.f)\nmethod m(y: Ref) requires acc(y.f) {\n y.f := 1\n id(y)\n assert y.f == 1\n}"
-        self.assertEqual(self.words(method, ["var y #1"], "pick true", "state"), ["`ensures x.f == old(x.f)` of `id`"])
+        self.assertEqual(self.words(method, ["var y #1"], "pick true", "state"), ["`ensures x.f == old(x.f)` of `id` behind line 7"])
 
 
     def test_what_the_callee_should_say_of_a_content(self):
         method = "method id(x: Ref) requires cell(x) ensures cell(x)\nmethod m(y: Ref) requires cell(y) {\n id(y)\n unfold cell(y)\n assert y.f == 3\n}"
         self.assertEqual(self.words(method, ["var y #1", "content cell #1 leaf 3"], "pick true", "state\ncontent cell #1 leaf 4"),
-                         ["`ensures (unfolding cell(x) in x.f) == old(unfolding cell(x) in x.f)` of `id`"])
+                         ["`ensures (unfolding cell(x) in x.f) == old(unfolding cell(x) in x.f)` of `id` behind line 7"])
 
 
 class Believable(unittest.TestCase):
@@ -164,10 +164,13 @@ class Believable(unittest.TestCase):
         found = Assumptions(again)
         texts = {source.data[:it.start].count(b"\n") - HEAD.count("\n") + 1: it.text for it in found.all()}
         self.assertEqual(texts[1], " assume ((write) > none ==> unfolding acc(cell(y), write) in true)"
-                         " assume ((1/2) > none ==> unfolding acc(list(z), 1/2) in (z.g != z))")
+                         " assume ((1/2) > none ==> unfolding acc(list(z), 1/2) in (z.g != z) && "
+                         "((z.g != null) ==> ((1/2) > none ==> unfolding acc(list(z.g), 1/2) in (z.g.g != z.g))))")
         self.assertEqual(texts[3], " assume ((write) > none ==> unfolding acc(cell(a), write) in true)"
-                         " assume (write > none) ==> ((write) > none ==> unfolding acc(list(a), write) in (a.g != a))")
-        self.assertEqual(texts[7], " assume (y.g != null) ==> ((write) > none ==> unfolding acc(list(y.g), write) in (y.g.g != y.g))")
+                         " assume (write > none) ==> ((write) > none ==> unfolding acc(list(a), write) in (a.g != a) && "
+                         "((a.g != null) ==> ((write) > none ==> unfolding acc(list(a.g), write) in (a.g.g != a.g))))")
+        self.assertEqual(texts[7], " assume (y.g != null) ==> ((write) > none ==> unfolding acc(list(y.g), write) in (y.g.g != y.g) && "
+                         "((y.g.g != null) ==> ((write) > none ==> unfolding acc(list(y.g.g), write) in (y.g.g.g != y.g.g))))")
         self.assertEqual([it.text for it in found.different()], [" assume z == null || z != y"])
 
     def test_what_is_doubted(self):
@@ -176,6 +179,13 @@ class Believable(unittest.TestCase):
             self.assertEqual(Doubts(again).instance() is not None, is_doubted, content)
         _, again = run_of("method m(x: Ref, y: Ref) { assert false }", ["var x #1", "var y #1"], "pick true")
         self.assertTrue(Doubts(again).has_aliases())
+
+    def test_a_reference_that_is_null_is_assumed_to_be_there(self):
+        content = "content list #1 pair leaf 1 pair leaf null unit"
+        for held, texts in (("", []), (" && list(y)", ["assume x.g != null "])):
+            _, again = run_of(f"method m(x: Ref, y: Ref) requires list(x){held} {{\n unfold list(x)\n exhale list(x.g)\n }}",
+                                   ["var x #1", "var y #2", content, content.replace("#1", "#2")], "pick true")
+            self.assertEqual([it.text for it in Assumptions(again).children()], texts)
 
     def test_loops_and_values_that_are_doubted(self):
         method = """method m(x: Ref, n: Int) requires acc(x.f) {

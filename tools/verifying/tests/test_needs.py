@@ -63,8 +63,26 @@ class Permission(unittest.TestCase):
         tree = "content tree #1 {} pair leaf 0 pair leaf null unit"
         again, lines = needs("method m(x: Ref, n: Int) requires tree(x, n - 1) { unfold tree(x, n + 1) }",
                                     ["var x #1", "var n 4", tree.format(3)], "pick true")
-        self.assertEqual(lines, ["needs tree(x, n + 1), which is tree(x, 5), write; held: none", "held: tree(x, 3)"])
+        self.assertEqual(lines, ["needs tree(x, n + 1), which is tree(x, 5), write; held: none",
+                                 "held instead: tree(x, 3): its `n` is 3, and n + 1 (= 5) is asked for"])
         self.assertEqual(unopened(again), "")
+
+    def test_instances_of_others_are_told_where_none_comes_closer(self):
+        method = "method m(x: Ref, y: Ref, z: Ref) requires acc(tree(x, 1), 1/2) && tree(y, 2) {{ exhale tree({}, 3) }}"
+        for name, lines in (("z", ["held besides: tree(x, 1), 1/2", "held besides: tree(y, 2)"]),
+                            ("x", ["held instead: tree(x, 1), 1/2: its `n` is 1, and 3 is asked for"])):
+            self.assertEqual(self.lines(method.format(name), ["var x #1", "var y #2", "var z #3"], "pick true")[1:], lines)
+
+    def test_terms_whose_variables_have_other_values_now_are_not_told(self):
+        method = "method m(x: Ref, n: Int) returns (y: Ref) requires tree(x, n) {\n y := x\n unfold tree(y, n)\n y := y.g\n exhale tree(y, n) }"
+        content = "content tree #1 4 pair leaf 0 pair leaf #2 pair leaf 0 pair leaf null unit"
+        self.assertEqual(self.lines(method, ["var x #1", "var n 4", content], "pick true")[1:],
+                         ["held instead: tree(y, 3): its `n` is 3, and n (= 4) is asked for"])
+
+    def test_a_fold_that_made_too_little(self):
+        method = "method m(x: Ref) requires acc(x.f) && x.f == 0 {\n fold acc(cell(x), 1/2)\n exhale cell(x) }"
+        self.assertEqual(self.lines(method, ["var x #1"], "pick true"),
+                         ["needs cell(x), write; held: 1/2, so 1/2 is missing", "fold acc(cell(x), 1/2) at 11:2 made only 1/2"])
 
     def test_what_is_named_twice_is_told_as_one(self):
         self.assertEqual(self.lines("method m(x: Ref) requires acc(x.f) { pair(x, x) }", ["var x #1"], "pick true")[1:],
@@ -106,13 +124,14 @@ class Permission(unittest.TestCase):
         self.assertEqual(self.lines("method m(x: Ref) requires acc(x.f) { exhale cell(x) }", ["var x #1"], "pick true")[1:],
                          ["the body of cell(x) is held, and not folded"])
         self.assertEqual(self.lines("method m(x: Ref) { exhale cell(x) }", ["var x null"], "pick true")[1:],
-                         ["no state holds cell(null): its body has acc(x.f), and x is null"])
+                         ["no state holds cell(null): its body would have acc(null.f)"])
 
     def test_instances_that_come_close_have_the_terms_that_an_unfold_gave(self):
         content = "content tree #1 4 pair leaf 0 pair leaf #2 pair leaf 0 pair leaf null unit"
         self.assertEqual(self.lines("method m(x: Ref, n: Int) requires tree(x, n) { unfold tree(x, n) exhale tree(x.g, n) }",
                                     ["var x #1", "var n 4", content], "pick true"),
-                         ["needs tree(x.g, n), which is tree(#2, 4), write; held: none", "held: tree(x.g, n - 1), which is tree(#2, 3)"])
+                         ["needs tree(x.g, n), which is tree(#2, 4), write; held: none",
+                          "held instead: tree(x.g, n - 1): its `n` is n - 1 (= 3), and n (= 4) is asked for"])
 
     def test_the_message_where_it_is_inside_of_an_instance(self):
         again, _ = needs("method m(x: Ref) requires cell(x) { x.f := 1 }", ["var x #1", f"content cell #1 {CELL.format(3)}"], "pick true")
@@ -127,6 +146,13 @@ class Permission(unittest.TestCase):
     def test_an_instance_that_nothing_opens(self):
         again, _ = needs("method m(x: Ref, n: Int) requires tree(x, n) { x.f := 1 }", ["var x null", "var n 1"], "pick true")
         self.assertEqual(unopened(again), "tree(null, 1) is held in this run although its body rules it out: no step opens it")
+
+    def test_an_instance_in_another_one_that_nothing_opens(self):
+        head = "predicate all(x: Ref, n: Int) { acc(x.g) && tree(x.g, n) }\n"
+        for value, told in (("null", "tree(null, 1) is in all(x, 1) in this run although its body rules it out: no step opens it"), ("#2", "")):
+            again, _ = needs(f"{head}method m(x: Ref, n: Int) requires all(x, n) {{ x.f := 1 }}",
+                             ["var x #1", "var n 1", f"content all #1 1 pair leaf {value} unit"], "pick true")
+            self.assertEqual(unopened(again), told)
 
 
 class Values(unittest.TestCase):

@@ -158,9 +158,21 @@ method get() returns (x: Ref, n: Int) ensures acc(x.f) && acc(cell(x), 1/2)
 
     def test_a_loop_whose_condition_fails(self):
         self.assertEqual(self.rows("method m(x: Ref) requires acc(x.f) { while (x.f > 0) { } }", ["var x #1"], "pick true", "state", "pick true", "state")[2:],
-                         ["any iteration; takes x.f; fails at x.f"])
+                         ["any iteration; x.f stays outside; fails at x.f"])
         self.assertEqual(self.rows("method m(x: Ref) requires acc(x.f) { while (true) invariant acc(x.f) && x.f > 0 { } }", ["var x #1"], "pick true")[2:],
                          ["fails"])
+
+    def test_what_stays_outside_of_an_iteration(self):
+        method = "method m(x: Ref) returns (y: Ref) requires {} {{ while (true) invariant {} {{ y := null assert false }} }}"
+        for held, invariant, told in (("acc(x.f)", "acc(x.f, 1/2)", "any iteration: y = #1 (any value, was null); 1/2 of x.f stays outside"),
+                                      ("acc(x.f) && acc(x.g, 1/2)", "true", "any iteration: y = #1 (any value, was null); x.f stays outside; 1/2 of x.g stays outside")):
+            self.assertEqual(self.rows(method.format(held, invariant), ["var x #1"], "pick true", "state", "value #1", "pick true", "state")[2], told)
+        self.assertEqual(self.rows(method.format("cell(x) && cell(null)", "cell(y)"), ["var x #1"], "pick true", "state", "value #2", "pick true", "state")[2],
+                         "any iteration: y = #2; takes cell(null); cell(x) stays outside; gives cell(y)")
+
+    def test_a_postcondition_by_itself(self):
+        for ensures, told in (("x.f > 0", "its permission does not count here"), ("old(x.g) == null", "gives x.f = 0, write")):
+            self.assertEqual(self.rows(f"method m(x: Ref) requires acc(x.f) ensures {ensures} {{ }}", ["var x #1"], "pick false", "state")[1], told)
 
     def test_a_long_source_stands_above_its_text(self):
         row = Row(7, 1, 7, 2, "x" * 60, "a = 1", [], {})
