@@ -4,28 +4,8 @@ ghost use Rattle.std.specs.Prelude.{◌≤◌};
 use search_base::{Fuel, SearchStop, TermId};
 use search_rational::Rational;
 use search_rows::{LinearRow, RowSign};
+use search_sides::add_number;
 use search_state::Prover;
-
-/// Adds so many times a number to a row.
-fn add_number(
-    prover: &mut Prover,
-    row: &mut LinearRow,
-    n: TermId,
-    by: Rational,
-    fuel: &mut Fuel,
-) -> Result<(), SearchStop>
-    ensures { fuel.new.left ≤ fuel.old.left }
-{
-    let form = prover.terms.form(n, fuel)?;
-    fuel.take(form.len())?;
-    match form {
-        [(first, constant), rest @ ..] if first.is_none() => {
-            row.number = row.number.plus(constant.times(by)?)?;
-            row.add_terms(rest, by)
-        }
-        _ => row.add_terms(form, by),
-    }
-}
 
 /// The row that says that so many times a sum of numbers and a constant is not above 0. Equations are solved in it.
 pub(crate) fn limit(

@@ -7,8 +7,8 @@ use search_rows::{LinearRow, Point, RowSign, contradiction, solution};
 use search_state::Prover;
 use std::alloc::Global;
 
-/// What is below 0 is so by a half, or else by a half of that, and so on: so many gaps are tried.
-const MOST_GAPS: u32 = 10;
+/// What is below 0 is so by 1/2, or else by the square of that, and so on: so many gaps are tried.
+const MOST_GAPS: u32 = 6;
 
 /// Values at which the comparisons hold that are assigned, and these. None where they contradict each other.
 pub(crate) fn vertex_with(
@@ -43,11 +43,12 @@ fn vertex(alloc: Global, rows: Vec<LinearRow>, fuel: &mut Fuel) -> Result<Option
         return Ok(Some(solution(alloc, &rows, fuel)?));
     }
     let mut closed = rows;
-    let mut gap = Rational::ONE;
+    let mut gap = Rational::new(1, 2)?;
+    let mut before = Rational::ZERO;
     for _ in 0..MOST_GAPS {
-        let less = gap.over(Rational::whole(2))?;
-        close(&mut closed, &strict, less, gap)?;
-        gap = less;
+        close(&mut closed, &strict, gap, before)?;
+        before = gap;
+        gap = gap.times(gap)?;
         if contradiction(alloc, &closed, fuel)?.is_none() {
             return Ok(Some(solution(alloc, &closed, fuel)?));
         }

@@ -8,7 +8,7 @@ use search_state::Prover;
 use search_terms::TermKind;
 
 /// Adds so many times a number to a row.
-fn add_number(
+pub fn add_number(
     prover: &mut Prover,
     row: &mut LinearRow,
     n: TermId,

@@ -8,7 +8,7 @@ mod sums;
 mod values;
 
 pub use checking::check_numbers;
-pub use comparing::{comparison, difference};
+pub use comparing::{add_number, comparison, difference};
 pub use splits::{against, compared, halves, split};
 pub use sums::{refuted, sum_up};
 pub use values::{all_values, close_ones};
