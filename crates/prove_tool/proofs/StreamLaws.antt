@@ -6,7 +6,7 @@ use Rattle.vb_outer.specs.Faults.{Rose}
 use Rattle.vb_outer.specs.Shelf.{Files, IsWhole}
 use Rattle.vb_outer.specs.Sink.{Appends, AppendsPrefix}
 use Rattle.vb_outer.proofs.FaultLaws.{rose_earlier}
-use Rattle.vb_outer.proofs.SinkLaws.{prefix_all, prefix_after}
+use Rattle.vb_outer.proofs.SinkLaws.{appends_both, prefix_all, prefix_after}
 use Rattle.std.specs.declared.alloc.Global.{Global}
 use Rattle.std.specs.declared.vec.Vec.{Vec}
 use Rattle.vb_base.specs.declared.labels.Label.{Label}
@@ -55,6 +55,11 @@ pub sink_stops : {W : ProveStatus → List ℕ → Type 0} {B : List ℕ → Typ
     StopsAtSink first last s → Ends W B before now first last s
 sink_stops front s part.memory_of_sink = ends.no_memory front
 sink_stops front s (part.unwritten_of_sink rose) = ends.unwritten front rose
+
+-- what is written by one after the other
+pub both_written : (before middle now : Option (List ℕ)) → ((text : List ℕ) × Appends before middle text) → ((text : List ℕ) × Appends middle now text) →
+    (text : List ℕ) × Appends before now text
+both_written before middle now first second = (first.0 ++ second.0, appends_both before middle now first.0 second.0 first.1 second.1)
 
 -- its faults are counted from an earlier moment on
 pub sink_earlier : (first before now : ℕ) → first ≤ before → (s : ProveStatus) → StopsAtSink before now s → StopsAtSink first now s
