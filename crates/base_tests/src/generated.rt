@@ -18,7 +18,7 @@ method m2(x: Ref) returns (r: Int)
 }
 ";
 
-/// Whether a program of one method is the front of one of two, and that of one of 2,000.
+/// Whether a program of one method is the prefix of one of two, and that of one of 2,000.
 fn grows(alloc: Global) -> Option<bool> {
     let two = make_program(alloc, 2).ok()?;
     let most = make_program(alloc, 2_000).ok()?;

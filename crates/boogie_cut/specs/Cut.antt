@@ -84,7 +84,7 @@ abbrev pub cut_guard : Option t.BExpr → s.BStmts → s.BStmt
 cut_guard (Some e) xs = s.If e xs s.skip
 cut_guard None xs = s.Either xs s.skip
 
--- the body, after which the invariants are asserted and nothing goes on
+-- the body, after which the invariants are asserted and no run continues
 abbrev pub cut_turn : List Clause → s.BStmts → s.BStmts
 cut_turn invariants xs = join xs (join (asserts invariants) (alone (s.Assume (t.Bool false))))
 

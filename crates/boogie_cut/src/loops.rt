@@ -59,7 +59,7 @@ fn write_head(
     write_assumes(alloc, Renumbering::Own, invariants, out)
 }
 
-/// After a turn the invariants hold, and nothing goes on.
+/// After a turn the invariants hold, and no run continues.
 fn end_turn(alloc: Global, invariants: &[Clause], turn: &mut Vec<BStmt>) -> Result<(), Memory>
     ensures { OnOk result (stmts_of turn.new.items ≡ c.cut_turn (clauses_of invariants.now) (stmts_of turn.old.items)) }
 {

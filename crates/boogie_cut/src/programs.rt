@@ -67,7 +67,7 @@ fn add_proc(
 }
 
 /// The program without loops and calls. For each procedure that has a body, in their order, one is written under its name: it has the
-/// procedure's own variables, and further ones behind them. The only error is the want of memory. What is written for a well-typed
+/// procedure's own variables, and further ones behind them. The only error is running out of memory. What is written for a well-typed
 /// program is well-typed, and its runs are the modular runs.
 pub fn cut(alloc: Global, program: &WProgram) -> Result<BProgram, Memory>
     ensures written { IfOk result (λ b. program_of b ≡ cut_program (wprogram_of program.now)) }

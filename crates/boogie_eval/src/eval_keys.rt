@@ -26,7 +26,7 @@ fn extended(alloc: Global, front: &Key, part: KeyPart) -> Result<Key, Memory>
     Ok(Key::new(parts))
 }
 
-/// Whether a key that begins so and goes on with these types is not in the set. No more keys are tried than the set has, and one.
+/// Whether a key that begins so and continues with these types is not in the set. No more keys are tried than the set has, and one.
 fn has_other_from(alloc: Global, front: &Key, bases: &[BBase], set: &KeySet) -> Result<bool, Memory>
     requires { IsSet set.now }
     ensures { IfOk result (λ p. p ≡ d.finds bases.now (λ k. not (d.is_listed (keys set.now) (front.now ++ k)))) }

@@ -22,7 +22,7 @@ unclosed_with n _ = n
 abbrev pub unclosed : List PlacedLexeme → ℕ
 unclosed ts = fold (λ n t. unclosed_with n t.tok) 0 ts
 
--- after no front of these tokens too many are unclosed
+-- after no prefix of these tokens too many are unclosed
 abbrev pub IsShallow : List PlacedLexeme → Type 0
 IsShallow ts = (n : ℕ) → unclosed (take n ts) ≤ max_unclosed_brackets
 

@@ -12,7 +12,7 @@ use Rattle.boogie_grammar.specs.Step.{IsPiece}
 abbrev pub unclosed_from : ℕ → List PlacedLexeme → ℕ
 unclosed_from n ts = fold (λ m t. unclosed_with m t.tok) n ts
 
--- where so many brackets are unclosed before these tokens, too many are so after no front of them
+-- where so many brackets are unclosed before these tokens, too many are so after no prefix of them
 abbrev pub IsShallowFrom : ℕ → List PlacedLexeme → Type 0
 IsShallowFrom n ts = (i : ℕ) → unclosed_from n (take i ts) ≤ max_unclosed_brackets
 

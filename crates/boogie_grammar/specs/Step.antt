@@ -63,6 +63,6 @@ sign_operator sign.Star = Some op.Mul
 sign_operator sign.Slash = Some op.Divide
 sign_operator _ = None
 
--- the bytes differ from a front, at this place
+-- the bytes do not have this prefix, and differ from it at this place
 abbrev pub LacksFront : List ℕ → List ℕ → Pos → Type 0
 LacksFront bytes front at = (same : List ℕ) × Differs bytes front same × IsPlaceAfter same at

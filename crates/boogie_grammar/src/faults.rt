@@ -11,7 +11,7 @@ pub enum BoogieFault {
     Memory,
     /// It does not begin with the prelude; the first byte that differs, or the end.
     Prelude(Pos),
-    /// The first byte at which nothing begins, or the first token with which no program goes on, or the end.
+    /// The first byte at which nothing begins, or the first token with which no program continues, or the end.
     Syntax(Pos),
     /// The first sign with which more than `MAX_UNCLOSED_BRACKETS` are unclosed.
     Deep(Pos),

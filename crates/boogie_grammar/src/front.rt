@@ -1,4 +1,4 @@
-// The front of a text.
+// A prefix of a text.
 ghost use Rattle.std.specs.Prelude.{◌≡◌, ◌≤◌, ◌<◌, ◌≢◌, ◌++◌, length, take, get_or, MatchResult};
 ghost use Rattle.vb_base.specs.Limits.{max_boogie_bytes};
 ghost use Rattle.boogie_tree.specs.Text.{prelude};

@@ -11,7 +11,7 @@ use std::alloc::Global;
 use vb_base::limits::MAX_UNCLOSED_BRACKETS;
 use vb_base::{Memory, Pos, same_bytes};
 
-/// What a text goes on with.
+/// What a text continues with.
 #[derive(Clone, Copy)]
 pub enum NextPart<'a> {
     /// Blanks alone, up to its end.

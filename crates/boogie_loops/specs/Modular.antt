@@ -65,7 +65,7 @@ turned b invariants body env cs =
     then_run (body env cs) (λ env cs. then_run (assert_all b invariants env env cs) (λ env cs. Stops Blocked cs))
 
 -- The invariants are asserted, the targets get values from outside, and the invariants are assumed. Where the guard is true, there
--- is a turn; else the run goes on.
+-- is a turn; else the run continues.
 abbrev pub looped : List BType → Bound → List Clause → List ℕ → Option t.BExpr → (List BValue → List BChoice → Run) → List BValue → List BChoice → Run
 looped ls b invariants is g body env cs =
     then_run (assert_all b invariants env env cs) (λ env cs.

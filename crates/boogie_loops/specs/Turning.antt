@@ -17,13 +17,13 @@ use Rattle.boogie_loops.specs.Modular.{assert_all, assume_all, cutrun_stmt}
 
 -- how a turning run ends
 pub data Turned : Type 0 where
-  -- it goes on, with the choices and the number of turns that are left
+  -- it continues, with the choices and the number of turns that are left
   Goes : List BValue → List BChoice → ℕ → Turned
   Halts : Stop → List BChoice → Turned
   -- no turn is left
   Spent : List BChoice → Turned
 
--- ---- ways to go on
+-- ---- ways to continue
 
 abbrev pub then_turned : Turned → (List BValue → List BChoice → ℕ → Turned) → Turned
 then_turned (Goes env cs n) go = go env cs n

@@ -18,7 +18,7 @@ pub enum WStmt {
     Put(usize, Vec<BExpr>, BExpr),
     /// The variable of this number gets a value from outside.
     Havoc(usize),
-    /// A run goes on only where the expression is true.
+    /// A run continues only where the expression is true.
     Assume(BExpr),
     /// A run fails at the label where the expression is false.
     Assert(Label, BExpr),

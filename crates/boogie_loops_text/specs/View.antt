@@ -39,7 +39,7 @@ all_wprocs_of v = map wproc_of v.items
 abbrev pub numbers_of : Vec ℕ Global → List ℕ
 numbers_of v = v.items
 
--- what a function answers that reads the front of a rule, whatever follows it
+-- what a function answers that reads the beginning of a rule, whatever follows it
 
 abbrev pub ReadsMark : List PlacedLexeme → Result (Label × Bor (List PlacedLexeme)) (Stop PlacedLexeme) → Type 0
 ReadsMark ts (Ok r) = (s : WKind) (go : Label → Rule s) → Goes (marked go) ts (go r.0) r.1.now

@@ -1,4 +1,4 @@
--- How evaluating ends, and the ways to go on.
+-- How evaluating ends, and the ways to continue.
 use Rattle.std.specs.Prelude.{Bool, true, false, Option, Some, None}
 use Rattle.vb_value.specs.Bound.{Bound, Unbounded, Bounded}
 
@@ -9,7 +9,7 @@ pub data End (X : Type 0) : Type 0 where
   -- an operand has the wrong type
   Wrong : End X
 
--- goes on with the value, or ends
+-- continues with the value, or ends
 abbrev pub then_with : {X Y : Type 0} → End X → (X → End Y) → End Y
 then_with (Is x) go = go x
 then_with Over go = Over

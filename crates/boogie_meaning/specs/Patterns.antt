@@ -17,7 +17,7 @@ use Rattle.boogie_meaning.specs.Run.{Run, Done, Stops, Blocked, chosen}
 abbrev pub assume_all : List BBase → t.BExpr → s.BStmt
 assume_all us a = s.Assume (t.Forall us a)
 
--- a run that goes on with the environment and the choices that it has, or blocks
+-- a run that continues with the environment and the choices that it has, or blocks
 pub data GoesOrBlocks (env : List BValue) (cs : List BChoice) : Run → Type 0 where
   goes : GoesOrBlocks env cs (Done env cs)
   blocks : GoesOrBlocks env cs (Stops Blocked cs)
@@ -67,7 +67,7 @@ pub record HasForgotten (env : List BValue) (u : BBase) (us : List BBase) (w : B
   pub agrees : Agrees (u ∷ us) held_map old_map new_map
   pub environment : env' ≡ with_both env old new new_map
 
--- a run that goes on does so with the environment and the choices that it has
+-- a run that continues does so with the environment and the choices that it has
 pub record GoesFrom (env : List BValue) (cs : List BChoice) (env' : List BValue) (left : List BChoice) : Type 0 where
   pub environment : env ≡ env'
   pub choices : cs ≡ left

@@ -34,7 +34,7 @@ pub data Run : Type 0 where
   Done : List BValue → List BChoice → Run
   Stops : Stop → List BChoice → Run
 
--- ---- ways to go on
+-- ---- ways to continue
 
 -- with what is evaluated
 abbrev pub with_end : {X : Type 0} → End X → List BChoice → (X → Run) → Run

@@ -16,7 +16,7 @@ ghost use Rattle.boogie_meaning.specs.Run.{Done, Stop, Stops, Blocked, Short, ch
 ghost use Rattle.boogie_meaning.specs.Value.{body_at};
 ghost use Rattle.boogie_tree.specs.Values.{FitsKey, IsMapOf, map_type, IsReducedChoice};
 
-/// `assume` of a quantifier goes on just where the body is true at every list of keys.
+/// `assume` of a quantifier continues just where the body is true at every list of keys.
 pub fn assuming_a_quantifier_is_assuming_it_at_each_key()
     ensures holds { (ls : List BType) (b : Bound) (us : List BBase) (a : t.BExpr) (env : List BValue) (cs : List BChoice)
         → ((k : Key) → FitsKey us k → body_at b a env k ≡ Is true) → brun_stmt ls b (assume_all us a) env cs ≡ Done env cs }
@@ -30,7 +30,7 @@ pub fn assuming_a_quantifier_is_assuming_it_at_each_key()
         → ((k : Key) → FitsKey us k → IsTruth (body_at b a env k)) → GoesOrBlocks env cs (brun_stmt ls b (assume_all us a) env cs) }
 {}
 
-/// To assume that a map is 0 at each key goes on just where it is the map of zeros.
+/// To assume that a map is 0 at each key continues just where it is the map of zeros.
 pub fn assuming_zeros_is_assuming_the_map_of_zeros()
     ensures goes { (ls : List BType) (b : Bound) (us : List BBase) (env : List BValue) (m : ℕ) (cs : List BChoice)
         → slice_get env m ≡ Some (Many (empty (Real none))) → brun_stmt ls b (zero_code us m) env cs ≡ Done env cs }
@@ -61,7 +61,7 @@ pub fn forgetting_is_choosing_a_map_that_agrees()
         → brun ls b (forget_code (u ∷ us) held old new) env cs ≡ Stops why left → (why ≡ Blocked) ⊎ (why ≡ Short) }
 {}
 
-/// To assume that a map has another value than a variable wherever a further map is not 0 goes on just where that is so.
+/// To assume that a map has another value than a variable wherever a further map is not 0 continues just where that is so.
 pub fn assuming_that_a_map_avoids_a_value_is_assuming_it_at_each_key()
     ensures goes { (ls : List BType) (b : Bound) (us : List BBase) (env : List BValue) (w : BBase) (held m r : ℕ)
         (held_map map : Map Key BScalar) (v : BScalar) → AreThere env us w held m r held_map map v

@@ -129,7 +129,7 @@ impl From<Failed> for EmitFault {
     }
 }
 
-// Each of these sends a piece. One that answers Ok has appended all of it, and one that is refused a front of it, which may
+// Each of these sends a piece. One that answers Ok has appended all of it, and one that is refused a prefix of it, which may
 // be nothing.
 
 /// Sends the prelude.

@@ -1,4 +1,4 @@
--- A run that goes on statement by statement.
+-- A run that continues statement by statement.
 use Rattle.std.specs.Prelude.{List, Option, Some, None}
 use Rattle.boogie_tree.specs.Value as v
 use Rattle.boogie_meaning.specs.Run.{Run, Done, Stops}

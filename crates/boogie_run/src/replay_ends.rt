@@ -20,7 +20,7 @@ pub(crate) enum ReplayStop {
     Wrong,
 }
 
-/// Why a run does not go on.
+/// Why a run does not continue.
 #[derive(Clone, Copy, Debug, PartialEq, Eq)]
 pub(crate) enum ReplayHalt {
     /// There was no memory.
@@ -28,7 +28,7 @@ pub(crate) enum ReplayHalt {
     Stops(ReplayStop),
 }
 
-/// Why a run stops that does not go on, unless there was no memory.
+/// Why a run stops that does not continue, unless there was no memory.
 pub(crate) fn stop_of(halt: ReplayHalt) -> Result<ReplayStop, Memory>
     ensures { IfOk result (λ stop. halt ≡ ReplayHalt.Stops stop) }
 {

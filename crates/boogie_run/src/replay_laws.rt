@@ -1,4 +1,4 @@
-//! Laws of where runs begin and of how they go on, as the contracts of functions that do nothing.
+//! Laws of where runs begin and of how they continue, as the contracts of functions that do nothing.
 
 ghost use Rattle.std.specs.Prelude.{◌≡◌, ◌++◌, ◌∷◌, [], List, All};
 ghost use Rattle.vb_value.specs.Bound.{Bound};

@@ -24,7 +24,7 @@ use Rattle.boogie_text.specs.declared.inside.NextInside.TheVariants as inside
 use Rattle.boogie_text.specs.declared.outside.Outside.{Outside}
 use Rattle.boogie_text.specs.declared.outside.Outside.TheVariants as outside
 
--- after these procedures the text goes on so that all of the program are those, and never are too many brackets unclosed
+-- after these procedures the text continues so that all of the program are those, and never are too many brackets unclosed
 pub record IsTail (so_far : List Proc) (text : List ℕ) (all : List Proc) : Type 0 where
   pub tokens : List PlacedLexeme
   pub cut : IsRow text tokens
@@ -40,7 +40,7 @@ after_statements so_far name ls ss =
 abbrev pub after_locals : List Proc → List ℕ → List p.Local → Rule v.procs
 after_locals so_far name ls = read (g.Locals ls) (λ locals. after_statements so_far name locals [])
 
--- In a procedure of this name, behind these of its locals, the text goes on so that all procedures of the program are those: the
+-- In a procedure of this name, behind these of its locals, the text continues so that all procedures of the program are those: the
 -- procedures before, that one, and what follows it. One bracket is unclosed there, and never are too many.
 pub record IsLocalsTail (so_far : List Proc) (name : List ℕ) (ls : List p.Local) (text : List ℕ) (all : List Proc) : Type 0 where
   pub tokens : List PlacedLexeme
@@ -55,30 +55,30 @@ pub record IsBodyTail (so_far : List Proc) (name : List ℕ) (ls : List p.Local)
   pub shallow : IsShallowFrom 1 tokens
   pub spells : Derives rules _ (after_statements so_far name ls done) tokens all
 
--- the head of a procedure of this name, which is none of these, is read off a text: if what is left goes on inside of it, the text goes
--- on so
+-- the head of a procedure of this name, which is none of these, is read off a text: if what is left continues inside of it, the text
+-- continues so
 pub record BeginsProcedure (taken : List (List ℕ)) (text name rest : List ℕ) : Type 0 where
   pub goes_on : (so_far all : List Proc) → proc_names so_far ≡ taken → IsLocalsTail so_far name [] rest all → IsTail so_far text all
   pub new : is_among name taken ≡ false
   pub shorter : length rest < length text
 
--- the declaration of a local, whose name is none of these, is read off a text: if what is left goes on behind one local more, the text
--- goes on so
+-- the declaration of a local, whose name is none of these, is read off a text: if what is left continues behind one local more, the text
+-- continues so
 pub record BeginsLocal (names : List (List ℕ)) (text : List ℕ) (l : p.Local) (rest : List ℕ) : Type 0 where
   pub goes_on : (so_far : List Proc) (name : List ℕ) (ls : List p.Local) (all : List Proc) → local_names ls ≡ names →
       IsLocalsTail so_far name (ls ++ l ∷ []) rest all → IsLocalsTail so_far name ls text all
   pub new : is_among l.name names ≡ false
   pub shorter : length rest < length text
 
--- a statement in which locals of these names may be used, and whose literals are literals, is read off a text: if what is left goes on
--- behind one statement more, the text goes on so
+-- a statement in which locals of these names may be used, and whose literals are literals, is read off a text: if what is left continues
+-- behind one statement more, the text continues so
 pub record BeginsStatement (names : List (List ℕ)) (text : List ℕ) (a : s.BStmt) (rest : List ℕ) : Type 0 where
   pub goes_on : (so_far : List Proc) (name : List ℕ) (ls : List p.Local) (done : List s.BStmt) (all : List Proc) → local_names ls ≡ names →
       IsBodyTail so_far name ls (done ++ a ∷ []) rest all → IsBodyTail so_far name ls done text all
   pub fits : FitsStmt (length names) a
   pub shorter : length rest < length text
 
--- the end of a procedure is read off a text: if what is left goes on behind one procedure more, the text goes on so
+-- the end of a procedure is read off a text: if what is left continues behind one procedure more, the text continues so
 pub record BeginsEnd (text rest : List ℕ) : Type 0 where
   pub goes_on : (so_far : List Proc) (name : List ℕ) (ls : List p.Local) (done : List s.BStmt) (all : List Proc) →
       IsTail (so_far ++ record { name = name; locals = ls; body = s.stmts done } ∷ []) rest all → IsBodyTail so_far name ls done text all

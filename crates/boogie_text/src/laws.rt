@@ -34,7 +34,7 @@ pub fn some_answer()
     ensures { (ts : List PlacedLexeme) → IsProgram ts ⊎ GoesWrong ts }
 {}
 
-/// A text that goes on behind the prelude, as behind no procedure, so that all procedures are these, is read as these.
+/// A text that continues behind the prelude, as behind no procedure, so that all procedures are these, is read as these.
 pub fn read_by_procedures()
     ensures { (bytes rest : List ℕ) (ps : List p.Proc) → bytes ≡ prelude ++ rest → IsTail [] rest ps → IsRead bytes (record { procs = ps }) }
 {}

@@ -27,7 +27,7 @@ pub fn type_of(alloc: Global, tokens: &[PlacedLexeme]) -> BoogieRead<'_, BType>
     Ok((BType { keys, base }, rest))
 }
 
-/// What goes on with a list of one type of keys, and the `]` after them.
+/// What continues a list of one type of keys, and the `]` after them.
 fn more_keys(alloc: Global, first: BBase, tokens: &[PlacedLexeme]) -> BoogieRead<'_, Vec<BBase>>
     ensures shorter { IfOk result (λ r. length r.1.now < length tokens.now) }
     ensures reads { Parses bases_of (g.rule (g.MoreKeys (first ∷ []))) tokens.now result }

@@ -1,6 +1,6 @@
 // The lines with which each program begins.
 
-/// The prelude: references, and contents of predicates as finite trees. It is at the front of each Boogie program.
+/// The prelude: references, and contents of predicates as finite trees. It is a prefix of each Boogie program.
 pub const PRELUDE: &[u8] = b"type Ref;
 const null: Ref;
 type Snap;

@@ -15,7 +15,7 @@ pub(crate) fn next_line(text: &[u8]) -> Option<(&[u8], &[u8])>
     }
 }
 
-/// The number that digits spell, where it is below 2^127 and has no needless 0 in front.
+/// The number that digits spell, where it is below 2^127 and has no needless leading 0.
 fn numeral(digits: &[u8]) -> Option<i128> {
     if let [b'0', _, ..] = digits {
         return None;

@@ -1,5 +1,5 @@
 //! `copies_bench ENTRIES COPIES` makes a state of so many places, and copies it so many times. Each copy gets another value at one
-//! place, and is then given up. `bench/copies.sh` takes its time.
+//! place, and is then freed. `bench/copies.sh` takes its time.
 #![tactic(auto)]
 
 use sparse::Sparse;

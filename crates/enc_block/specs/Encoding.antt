@@ -38,7 +38,7 @@ abbrev pub consume_all_code : Kinds → Place → Maps → List e.Assertion → 
 consume_all_code k p left [] = gives tt
 consume_all_code k p left (a ∷ rest) = then_emit (consume_code k p left None one_real a) (λ u. consume_all_code k p left rest)
 
--- They are given up: read in the state as it was, and taken from the present one, in which what is no longer held is forgotten.
+-- They are exhaled: read in the state as it was, and taken from the present one, in which what is no longer held is forgotten.
 abbrev pub exhale_code : Kinds → Home → Pos → List e.Assertion → Emitting ⊤
 exhale_code k h at [] = forget_code k.layout h.now
 exhale_code k h at (a ∷ rest) =
@@ -57,7 +57,7 @@ branching kind first second n =
     let a = first n in let c = second a.next in
     record { locals = a.locals ++ c.locals; next = c.next; stmts = one (kind a.stmts c.stmts); value = tt }
 
--- nothing goes on from here
+-- no run continues from here
 abbrev pub stop : Emitting ⊤
 stop = puts None (one (s.Assume (t.Bool false)))
 
@@ -149,7 +149,7 @@ call_code k h at targets callee args =
 abbrev pub guard_code : Kinds → Home → Pos → e.Expr → (t.BExpr → t.BExpr) → Emitting ⊤
 guard_code k h at guard side = then_emit (code k (place h at) None guard) (λ x. puts None (one (s.Assume (side x.expr))))
 
--- One arbitrary turn begins in any state that the invariant allows. Nothing goes on from its end.
+-- One arbitrary turn begins in any state that the invariant allows. No run continues from its end.
 abbrev pub turn_code : Kinds → Home → Pos → e.Expr → List e.Assertion → Emitting ⊤ → Pos → Emitting ⊤
 turn_code k h at guard invariants body turn =
     then_emit (any_state_code k.layout h) (λ u. then_emit (produce_all_code k (place h at) invariants) (λ u. then_emit (guard_code k h at guard (λ x. x)) (λ u.

@@ -42,7 +42,7 @@ whole k = record { program = k.program; vars = k.vars; visible = below (length k
 
 -- ---- what holds of these locals throughout
 
--- Locals of these types are a home: variables have locals of their types, and no two of them the same; each map of the present and of
+-- Locals of these types form a layout: variables have locals of their types, and no two of them the same; each map of the present and of
 -- the old state has a local of its own, which is none of the masks and amounts in which nothing is held.
 pub record IsHome (ts : List BType) (k : Activation) (h : Home) : Type 0 where
   pub as_many : length h.vars ≡ length k.vars

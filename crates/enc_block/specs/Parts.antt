@@ -8,7 +8,7 @@ use Rattle.enc_expr.specs.Code.{Emitting, then_emit, puts}
 use Rattle.enc_block.specs.Home.{Home, place}
 use Rattle.enc_block.specs.Encoding.{produce_all_code, exhale_code, assert_code, stop, havoc_code, any_state_code, guard_code, keep_old}
 
--- before a loop its invariants are given up, and its targets take any values
+-- before a loop its invariants are exhaled, and its targets take any values
 abbrev pub head_code : Kinds → Home → Pos → List e.Assertion → List ℕ → Emitting ⊤
 head_code k h at invariants targets = then_emit (exhale_code k h at invariants) (λ u. puts None (havoc_code h targets))
 

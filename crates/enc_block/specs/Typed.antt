@@ -1,4 +1,4 @@
--- The types of the locals of a home.
+-- The types of the locals of a layout.
 use Rattle.std.specs.Prelude.{◌≡◌, ℕ, List, slice_get, Some}
 use Rattle.vb_value.specs.Layout.{Layout}
 use Rattle.vb_value.specs.declared.values.Ty.{Ty}

@@ -1,4 +1,4 @@
--- The plain data that contracts see of homes.
+-- The plain data that contracts see of the layouts of locals.
 use Rattle.enc_expr.specs.Place.{maps_of}
 use Rattle.enc_block.specs.Home as h
 use Rattle.enc_block.specs.declared.homes.Home.{Home}

@@ -37,7 +37,7 @@ pub fn statements_and_their_code_end_alike()
         → Runs ts b k h (block_code k.program (kinds_of k) h xs) (run_block b k xs) }
 {}
 
-/// Behind locals of the types that a home has, the code of a well-typed block of a formed program is well-typed, with its own locals
+/// Behind locals of the types that a layout has, the code of a well-typed block of a formed program is well-typed, with its own locals
 /// behind those, whose maps have indices of key types.
 pub fn code_is_well_typed()
     ensures { (m : MethodContext) (h : Home) (ts : List BType) (sc : Scope) (xs : Stmts) → IsFormed m.program → AreStmts m sc xs

@@ -60,7 +60,7 @@ fn guard_fails(
     assume(alloc, BExpr::Not(condition.expr), out)
 }
 
-/// Writes what stands before a loop: its invariants are given up, and its targets take any values.
+/// Writes what stands before a loop: its invariants are exhaled, and its targets take any values.
 pub fn loop_head(alloc: Global, w: &Loop, setting: Setting, out: &mut Emit) -> Result<(), Memory>
     ensures { OnOk result (Emits (part.head_code (kinds_of setting.entry.kinds) (home_of setting.entry.home.now) w.now.at
         (assertions_of w.now.invariants.items) w.now.targets.items (length (emit_of out.old).locals)) (emit_of out.old) (emit_of out.new) tt) }
@@ -88,7 +88,7 @@ pub fn turn_end(alloc: Global, w: &Loop, setting: Setting, out: &mut Emit) -> Re
     stop(alloc, out)
 }
 
-/// Writes what goes on behind a loop.
+/// Writes how a run continues behind a loop.
 pub fn after_loop(alloc: Global, w: &Loop, setting: Setting, out: &mut Emit) -> Result<(), Memory>
     ensures { OnOk result (Emits (code.after_code (kinds_of setting.entry.kinds) (home_of setting.entry.home.now) w.now.at
         (viper w.now.guard) (assertions_of w.now.invariants.items) (length (emit_of out.old).locals)) (emit_of out.old) (emit_of out.new) tt) }

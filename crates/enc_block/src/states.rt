@@ -55,7 +55,7 @@ pub fn keep_old(alloc: Global, home: &Home, out: &mut Emit) -> Result<(), Memory
     out.put(alloc, None, kept)
 }
 
-/// Writes that nothing goes on from here.
+/// Writes that no run continues from here.
 pub fn stop(alloc: Global, out: &mut Emit) -> Result<(), Memory>
     ensures { OnOk result (Emits (code.stop (length (emit_of out.old).locals)) (emit_of out.old) (emit_of out.new) tt) }
 {

@@ -197,7 +197,7 @@ pub fn old_is_an_argument()
     ensures not_held { (b : Bound) → Fails b (calling_old []) [] [] [] at_13_3 at_13_22 kind.Perm }
 {}
 
-/// A loop stands in the turn of another. What the outer invariant holds is given up to the inner one, and what was held before the outer
+/// A loop stands in the turn of another. What the outer invariant holds is passed to the inner one, and what was held before the outer
 /// loop is not held behind the inner one. `old` is the old state of the method.
 pub fn a_loop_in_a_turn()
     ensures behind { (b : Bound) → Fails b nesting (nested_choices ++ (choice.Branch false ∷ [])) (nested_events ++ (event.Branch false ∷ []))
@@ -209,7 +209,7 @@ pub fn a_loop_in_a_turn()
 {}
 
 /// A part of a body that counts only under a condition is folded and unfolded where it holds. An instance that its own body contains is
-/// given up first; what is held of it besides has to contain the same.
+/// exhaled first; what is held of it besides has to contain the same.
 pub fn a_list_is_folded()
     ensures goes { (b : Bound) → Goes b (listing (folds_L ∷ opens_half_of_L ∷ []) (listed ((1, 2) ∷ []) ((1, write) ∷ []) ((2, write) ∷ []) ((2, last_of_list) ∷ []))) []
         (event.Split (leaf_ref 2) last_of_list ∷ event.Leaf (v.Ref 2) ∷ [])

@@ -129,7 +129,7 @@ pair_code from l r = s.first (s.Havoc l) (s.first (s.Havoc r) (one (s.Assume (t.
 
 -- ---- opening
 
--- An instance is opened in copies of the present maps, once its arguments are in locals and its amount is an atom. What goes on is
+-- An instance is opened in copies of the present maps, once its arguments are in locals and its amount is an atom. The continuation is
 -- handed the copies, and the local of the content.
 abbrev pub opening_code : {X : Type 0} → Layout → Place → Guard → ℕ → Pos → Located → Atom → (Maps → ℕ → Emitting X) → Emitting X
 opening_code layout p g q at l a go =

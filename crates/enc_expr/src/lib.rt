@@ -1,4 +1,4 @@
-//! Expressions of Viper as code of Boogie, which fails, goes on and stops just as the expression does.
+//! Expressions of Viper as code of Boogie, which fails, continues and stops just as the expression does.
 //!
 //! `specs/` says what is written for each form (`Encoding`), how a state of Viper stands in the variables of Boogie
 //! (`Coupling`), and when a run of the code is alike (`Alike`).

@@ -1,4 +1,4 @@
-// The names of a unit and of its fixed locals, each with its kind in front.
+// The names of a unit and of its fixed locals, each with its kind as a prefix.
 ghost use Rattle.std.specs.Prelude.{◌≡◌, ◌++◌, codes, map, IfOk, OnOk};
 ghost use Rattle.std.specs.Fmt.{decimal};
 ghost use Rattle.viper_core.specs.Program as p;
@@ -16,7 +16,7 @@ use vb_base::{Ident, Memory};
 use vb_value::Ty;
 use viper_core::{Predicate, Program, Unit};
 
-/// The name behind a front that tells what it names.
+/// The name behind a prefix that tells what it names.
 fn fronted(alloc: Global, front: &[u8], name: &Ident) -> Result<Ident, Memory>
     ensures { IfOk result (λ whole. whole ≡ front.now ++ name.now) }
 {

@@ -72,7 +72,7 @@ pub fn unit_locals(alloc: Global, program: &Program, unit: u32) -> Result<Vec<Lo
 /// code of one step, the fixed locals of one procedure, an empty place for each of its other locals, and of its lines and
 /// text the first 4 MiB and what one more step writes.
 ///
-/// At Ok it has appended all of the text, and tells how much that was. At Err it has appended a front of it, which may be nothing:
+/// At Ok it has appended all of the text, and tells how much that was. At Err it has appended a prefix of it, which may be nothing:
 /// there was no memory for more, or the sink failed.
 pub fn encode_to<S: Sink>(
     alloc: Global,

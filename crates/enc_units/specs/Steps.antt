@@ -32,7 +32,7 @@ pub data CodeStep : Type 0 where
   -- an arbitrary turn: before the body, and behind it
   Turn : v.Loop → CodeStep
   Finish : v.Loop → CodeStep
-  -- what goes on behind a loop
+  -- how a run continues behind a loop
   After : v.Loop → CodeStep
   -- a method: before its body, behind it, and its postcondition by itself
   Enter : Method → CodeStep

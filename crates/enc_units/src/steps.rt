@@ -25,7 +25,7 @@ pub enum CodeStep<'a> {
     Turn(&'a Loop),
     /// Behind the body.
     Finish(&'a Loop),
-    /// What goes on behind a loop.
+    /// How a run continues behind a loop.
     After(&'a Loop),
     /// A method, before its body.
     Enter(&'a Method),

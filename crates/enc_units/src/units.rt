@@ -21,7 +21,7 @@ use vb_base::{Memory, boxed};
 use vb_value::Ty;
 use viper_core::{Program, Unit};
 
-/// The home of a unit, and the first of its zero maps.
+/// The layout of the locals of a unit, and the first of its zero maps.
 #[derive(Drop)]
 struct Placed {
     home: Home,
@@ -50,7 +50,7 @@ fn place_unit(alloc: Global, program: &Program, of: Unit) -> Result<Placed, Memo
     Ok(Placed { home, zero })
 }
 
-/// The home of a unit.
+/// The layout of the locals of a unit.
 pub fn unit_home(alloc: Global, program: &Program, of: Unit) -> Result<Home, Memory>
     ensures { IfOk result (λ h. home_of h ≡ unit.home_of (program_of program.now) of) }
 {

@@ -37,7 +37,7 @@ impl<'a> Writer<'a> {
     }
 }
 
-/// That of a unit, over its home.
+/// That of a unit, over the layout of its locals.
 #[tactic(auto, unfolding(crate::specs::View::coder_of))]
 pub fn unit_writer<'a>(program: &'a Program, unit: Unit, home: &'a Home) -> Writer<'a>
     requires { home_of home.now ≡ u.home_of (program_of program.now) unit }

@@ -22,7 +22,7 @@ pub data Reads {A : Alphabet} (rule : Rules A) : (s : A.Kind) → Rule A s → L
   called : {r s : A.Kind} {a : A.Symbol r} {go : A.Value r → Rule A s} {ts us vs : List A.Token} {y : A.Value r} {x : A.Value s} →
       Reads rule _ (rule _ a) ts y us → Reads rule _ (go y) us x vs → Reads rule _ (read a go) ts x vs
 
--- two lists with the same front, after which these are left
+-- two lists with the same prefix, after which these are left
 pub data Front {T : Type 0} (r s : List T) : List T → List T → Type 0 where
   here : Front r s r s
   step : {k : T} {ts us : List T} → Front r s ts us → Front r s (k ∷ ts) (k ∷ us)

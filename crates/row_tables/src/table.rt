@@ -114,7 +114,7 @@ impl Table {
         Err(Fault::Line)
     }
 
-    /// A block begins only behind an empty line, or at the front of the table.
+    /// A block begins only behind an empty line, or at the beginning of the table.
     fn begin_block(&self) -> Result<(), Fault> {
         if self.in_row || self.place != Place::Nowhere {
             return Err(Fault::Line);

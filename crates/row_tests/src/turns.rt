@@ -130,7 +130,7 @@ fn is_as_due(failing: Failing, ended: &Ended, whole: &Ended, most: u64) -> bool 
     }
 }
 
-/// Whether a text is a front of another one that is longer, and has so many bytes at most.
+/// Whether a text is a prefix of another one that is longer, and has so many bytes at most.
 fn is_proper_front(front: &[u8], whole: &[u8], most: u64) -> bool {
     front.len() < whole.len() && front.len() as u64 <= most && whole.starts_with(front)
 }

@@ -18,14 +18,14 @@ use Rattle.run_file.specs.declared.reader.ViperStage.TheVariants as stage
 
 -- ---- the lines so far
 
--- how far a file is read: what stands open, the names that its lines have named, and the run so far, or the front of it. Where a
+-- how far a file is read: what stands open, the names that its lines have named, and the run so far, or the prefix of it. Where a
 -- heap and contents are filled, they are the last of the choices.
 pub record Progress (R : Type 0) : Type 0 where
   pub stage : ViperStage
   pub named : List LineTarget
   pub run : R
 
--- what lines make of a run, or of a front of one
+-- what lines make of a run, or of a prefix of one
 pub record Changes (R : Type 0) : Type 0 where
   -- nothing is read yet
   pub begun : UnitScope → R
@@ -80,9 +80,9 @@ begun_run s = record { opening = empty_opening s; choices = [] }
 abbrev pub whole : Changes ViperRun
 whole = record { begun = begun_run; set = run_set; place = run_with; choose = run_chosen }
 
--- ---- fronts
+-- ---- prefixes
 
--- the stage as the front sees it: the heaps and contents behind it are not filled
+-- the stage as the prefix sees it: the heaps and contents behind it are not filled
 abbrev pub stage_within : ℕ → ViperStage → ViperStage
 stage_within more stage.Header = stage.Header
 stage_within more stage.Opening = stage.Opening
@@ -93,7 +93,7 @@ stage_within more stage.Choosing = stage.Choosing
 abbrev pub front_with : ViperStage → ViperLine → Front → Front
 front_with g l front = record { run = run_with (stage_within front.more g) l front.run; more = front.more }
 
--- the next choice is within the front of so many
+-- the next choice is within the prefix of so many
 abbrev pub has_room : ℕ → ℕ → ℕ → Bool
 has_room many more built = more == 0 && nat_lt built many
 
@@ -102,7 +102,7 @@ front_chosen many c front = if has_room many front.more (length front.run.choice
     then record { run = run_chosen c front.run; more = front.more }
     else record { run = front.run; more = front.more + 1 }
 
--- the changes of the fronts with so many choices
+-- the changes of the prefixes with so many choices
 abbrev pub fronts : ℕ → Changes Front
 fronts many = record {
   begun = λ s. record { run = begun_run s; more = 0 };
@@ -179,6 +179,6 @@ reader_of k s = machine_of (file_kind k s)
 abbrev pub reader : UnitScope → Machine (Progress ViperRun) ViperRun
 reader = reader_of whole
 
--- the reader of fronts with so many choices
+-- the reader of prefixes with so many choices
 abbrev pub front_reader : ℕ → UnitScope → Machine (Progress Front) Front
 front_reader many = reader_of (fronts many)

@@ -18,7 +18,7 @@ run_of x = record { opening = opening_of x.opening; choices = map choice_of x.ch
 abbrev pub front_view : ViperFront → Front
 front_view x = record { run = run_of x.run; more = x.more }
 
--- a heap and contents that are filled within the front stand in their place in the run
+-- a heap and contents that are filled within the prefix stand in their place in the run
 abbrev pub front_filled : ViperStage → Memo → Front → Front
 front_filled g m front = record { run = with_filled (stage_within front.more g) m front.run; more = front.more }
 

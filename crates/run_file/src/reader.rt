@@ -58,7 +58,7 @@ pub fn read_viper_run(
     }
 }
 
-/// The run whose front this is, if it has all choices. No memory has room for more of them than a front may have at most.
+/// The run whose prefix this is, if it has all choices. No memory has room for more of them than a prefix may have at most.
 fn whole_run(front: ViperFront) -> Result<ViperRun, RunFileFault>
     ensures { MatchResult result (λ run. (front.more ≡ 0) × (run_of run ≡ run_of front.run)) (λ e. e ≡ fault.Memory) }
 {
@@ -70,9 +70,9 @@ fn whole_run(front: ViperFront) -> Result<ViperRun, RunFileFault>
     }
 }
 
-/// The front, with so many choices, of the run of a unit that the bytes of a run file spell. The choices behind it are checked
+/// The prefix, with so many choices, of the run of a unit that the bytes of a run file spell. The choices behind it are checked
 /// and counted, and not built: each heap and contents has a map for each field and each predicate. Bytes that spell no run go
-/// wrong as for `read_viper_run`. `Memory` where there is no memory for the front or for the names of the program.
+/// wrong as for `read_viper_run`. `Memory` where there is no memory for the prefix or for the names of the program.
 pub fn read_viper_front(
     alloc: Global,
     bytes: &[u8],
@@ -86,7 +86,7 @@ pub fn read_viper_front(
     ensures run { IfOk result (λ x. SpellsFront bytes.now (program_of program.now) unit many (front_view x)) }
     ensures fault { IfErr result (UnlessMemory (GoesWrongAt bytes.now (program_of program.now) unit)) }
 
-    // and so no other front, and no other place
+    // and so no other prefix, and no other place
     ensures only_run { (run : Plain) → SpellsViperRun bytes.now (program_of program.now) unit run → Gives (λ x. front_view x ≡ front_of many run) result }
     ensures only_place { (at : Pos) → GoesWrongAt bytes.now (program_of program.now) unit at → GivesPlace at result }
 {
@@ -109,7 +109,7 @@ pub fn read_viper_front(
 enum ViperStage {
     Header,
     Opening,
-    /// A heap and contents are filled, which are the next choice. Behind the front their lines fill nothing.
+    /// A heap and contents are filled, which are the next choice. Behind the prefix their lines fill nothing.
     Filling,
     Choosing,
 }
@@ -122,7 +122,7 @@ struct ViperReader {
     named: NamedSets,
     /// The heap and contents that are filled.
     filling: Filling,
-    /// The front of the run without those.
+    /// The prefix of the run without those.
     front: ViperFront,
 }
 
@@ -217,7 +217,7 @@ impl ViperReader {
         Ok(true)
     }
 
-    /// Puts a value or content into the heap and contents that are filled, where those are within the front.
+    /// Puts a value or content into the heap and contents that are filled, where those are within the prefix.
     fn fill(&mut self, line: ViperLine) -> Result<(), Memory>
         ensures { OnOk result (progress_of self.new ≡ record { stage = self.old.stage; named = named_of self.old.named; run = progress.front_with self.old.stage (line_view line) (progress_of self.old).run }) }
     {
@@ -252,7 +252,7 @@ impl ViperReader {
         Ok(true)
     }
 
-    /// Puts the heap and contents that were filled into the front, and forgets what their lines have named.
+    /// Puts the heap and contents that were filled into the prefix, and forgets what their lines have named.
     fn close(&mut self, alloc: Global) -> Result<(), Memory>
         ensures run { OnOk result (front_view self.new.front ≡ (progress_of self.old).run) }
         ensures named { OnOk result (named_of self.new.named ≡ []) }
@@ -266,7 +266,7 @@ impl ViperReader {
         put_filled(alloc, &mut self.front.run, stage, filled)
     }
 
-    /// The front.
+    /// The prefix.
     fn finish(self, alloc: Global) -> Result<ViperFront, Memory>
         ensures { IfOk result (λ x. front_view x ≡ (progress_of self).run) }
     {
@@ -279,7 +279,7 @@ impl ViperReader {
     }
 }
 
-/// Takes in a choice, which is counted alone where it is behind the front of so many.
+/// Takes in a choice, which is counted alone where it is behind the prefix of so many.
 fn add_choice(front: &mut ViperFront, many: usize, choice: Choice) -> Result<(), Memory>
     ensures { OnOk result (front_view front.new ≡ progress.front_chosen many (choice_of choice) (front_view front.old)) }
 {
@@ -307,7 +307,7 @@ fn put_filled(
     Ok(())
 }
 
-/// The stage as the front sees it, behind which there are so many choices.
+/// The stage as the prefix sees it, behind which there are so many choices.
 fn stage_within(more: usize, stage: ViperStage) -> ViperStage
     ensures { result ≡ progress.stage_within more stage }
 {
@@ -403,7 +403,7 @@ impl LineReader for ViperScoped<'_> {
     }
 }
 
-/// The front, with so many choices, of the run that the lines of a text are, or where it goes wrong.
+/// The prefix, with so many choices, of the run that the lines of a text are, or where it goes wrong.
 fn read_front(
     alloc: Global,
     scope: UnitScope,

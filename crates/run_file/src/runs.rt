@@ -12,7 +12,7 @@ pub struct ViperRun {
     pub choices: Vec<Choice>,
 }
 
-/// The front of a run: the first of its choices, and how many more there are.
+/// The prefix of a run: the first of its choices, and how many more there are.
 #[derive(Drop)]
 pub struct ViperFront {
     pub run: ViperRun,
@@ -20,14 +20,14 @@ pub struct ViperFront {
 }
 
 impl ViperFront {
-    /// Whether the next choice is within the front of so many.
+    /// Whether the next choice is within the prefix of so many.
     pub(crate) fn has_room(&self, many: usize) -> bool
         ensures { result ≡ has_room many self.now.more (vec_len self.now.run.choices) }
     {
         self.more == 0 && self.run.choices.len() < many
     }
 
-    /// Counts a choice behind the front. `Memory` where it is too far behind to be counted.
+    /// Counts a choice behind the prefix. `Memory` where it is too far behind to be counted.
     pub(crate) fn count(&mut self) -> Result<(), Memory>
         ensures { OnOk result (self.new ≡ record { run = self.old.run; more = self.old.more + 1 }) }
     {

@@ -18,7 +18,7 @@ pub record Headed {L R : Type 0} (header : List (List ℕ)) (IsLine : List (List
   pub meant : AllZip IsLine words said
   pub means : Are said run
 
--- lines that may stand at the front of a file: all of them are skipped, or they spell something
+-- lines that may stand at the beginning of a file: all of them are skipped, or they spell something
 abbrev pub MayStand : {R : Type 0} → (List (List ℕ) → R → Type 0) → List (List ℕ) → Type 0
 MayStand {R} Spell lines = (told lines ≡ []) ⊎ ((run : R) × Spell lines run)
 

@@ -35,7 +35,7 @@ fn is_short(end: ExecEnd) -> bool
     matches!(end, ExecEnd::Short)
 }
 
-/// How an execution ended, where this is how it ended on a front behind which there are so many choices. None where the front is
+/// How an execution ended, where this is how it ended on a prefix behind which there are so many choices. None where the prefix is
 /// short of choices.
 fn whole_end(ended: EndedExecution, more: usize) -> Result<Option<EndedExecution>, Memory>
     ensures { (r : m.Run (Went s.State)) (many : ℕ) (choices : List c.Choice) → EndsSo (on r (take many choices)) ended → more ≡ length choices - many

@@ -4,10 +4,10 @@ ghost use Rattle.std.specs.Prelude.{◌≤◌, ◌<◌, IfOk};
 use vb_base::Memory;
 use viper_core::Program;
 
-/// The choices of the first front have about so many maps.
+/// The choices of the first prefix have about so many maps.
 const FRONT_MAPS: usize = 262_144;
 
-/// A front has at least so many choices, if the file has them.
+/// A prefix has at least so many choices, if the file has them.
 const LEAST_FRONT: usize = 64;
 
 /// How many choices are built at first.

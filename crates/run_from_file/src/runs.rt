@@ -38,7 +38,7 @@ fn is_short(outcome: Outcome) -> bool
     matches!(outcome, Outcome::Short)
 }
 
-/// How a run ended, where this is how it ended on a front behind which there are so many choices. None where the front is short of
+/// How a run ended, where this is how it ended on a prefix behind which there are so many choices. None where the prefix is short of
 /// choices.
 fn whole_end(mut end: Run, more: usize) -> Result<Option<Run>, Memory>
     ensures { (r : m.Run s.State) (many : ℕ) (choices : List c.Choice) → Ends (on r (take many choices)) end → more ≡ length choices - many

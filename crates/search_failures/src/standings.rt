@@ -90,7 +90,7 @@ fn try_each(
     Ok(())
 }
 
-/// Forgets all: a search that ended in the middle is not gone on with.
+/// Forgets all: a search that ended in the middle is not continued.
 fn start_over(
     prover: &mut Prover,
     conditions: &Conditions,

@@ -182,7 +182,7 @@ fn learn(prover: &mut Prover, conflict: StepId, fuel: &mut Fuel) -> Result<Round
     Ok(Round::Open(propagate(prover, fuel)?))
 }
 
-/// Looks at what is known on the way to a goal, and then goes on to it. Gives back a step that is false.
+/// Looks at what is known on the way to a goal, and then proceeds to it. Gives back a step that is false.
 fn look_before(prover: &mut Prover, goal: SignedTerm, fuel: &mut Fuel) -> Found
     ensures { fuel.new.left ≤ fuel.old.left }
 {

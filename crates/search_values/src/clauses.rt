@@ -128,7 +128,7 @@ impl Values {
         Ok(Visit::Kept)
     }
 
-    /// Puts the watched literal that is not this one at the front, and gives it.
+    /// Puts the watched literal that is not this one at the beginning, and gives it.
     fn front(&mut self, step: StepId, literal: SignedTerm) -> SignedTerm {
         let start = get(&self.starts, step.place()) as usize;
         if get(&self.arena, start) == literal && start + 1 < self.arena.len() {

@@ -5,7 +5,7 @@ use Rattle.tool_common.specs.Kind.{Kind, Answered, Refused, Unread, Unwritten, N
 
 -- ---- statuses
 
--- the cause of a status of this kind: a fault of a sink where one failed, and none for want of memory
+-- the cause of a status of this kind: a fault of a sink where one failed, and none for lack of memory
 abbrev pub CauseOf : Kind → Type 0 → Type 0 → Type 0
 CauseOf Answered SinkFailed Cause = Cause
 CauseOf Refused SinkFailed Cause = Cause
@@ -36,12 +36,12 @@ Stops kind Cause s = StopOf (kind s) (Cause s)
 
 -- ---- sinks
 
--- the front of such a text was appended, or nothing
+-- a prefix of such a text was appended, or nothing
 abbrev pub FrontWritten : Option (List ℕ) → Option (List ℕ) → (List ℕ → Type 0) → Type 0
 FrontWritten before now IsText = (now ≡ before) ⊎ ((text : List ℕ) × IsText text × AppendsPrefix before now text)
 
 -- what stands in the sink of the output after a status of this kind: the whole text, what stood there before, or what may stand there
--- after a fault of a sink, and for want of memory
+-- after a fault of a sink, and for lack of memory
 abbrev pub OutOf : Kind → Type 0 → Type 0 → Type 0 → Type 0 → Type 0
 OutOf Answered Whole Same Unfinished Forgotten = Whole
 OutOf Refused Whole Same Unfinished Forgotten = Same
@@ -49,8 +49,8 @@ OutOf Unread Whole Same Unfinished Forgotten = Same
 OutOf Unwritten Whole Same Unfinished Forgotten = Unfinished
 OutOf NoMemory Whole Same Unfinished Forgotten = Forgotten
 
--- what stands in the sink of errors after a status of this kind: its line, what stood there before, or after a fault of a sink the
--- front of such a line
+-- what stands in the sink of errors after a status of this kind: its line, what stood there before, or after a fault of a sink a
+-- prefix of such a line
 abbrev pub ErrOf : Kind → Type 0 → Type 0 → Type 0 → Type 0
 ErrOf Answered Line Same Front = Same
 ErrOf Refused Line Same Front = Line
@@ -58,7 +58,7 @@ ErrOf Unread Line Same Front = Line
 ErrOf Unwritten Line Same Front = Front
 ErrOf NoMemory Line Same Front = Same
 
--- what stands in the sink of errors: one more line, where the status has one; after a fault of a sink the front of such a line
+-- what stands in the sink of errors: one more line, where the status has one; after a fault of a sink a prefix of such a line
 abbrev pub ErrAfter : {S : Type 0} → (S → Kind) → (S → List ℕ) → Option (List ℕ) → Option (List ℕ) → (S → Type 0) → S → Type 0
 ErrAfter {S} kind line before now Cause s =
     ErrOf (kind s) (Appends before now (line s)) (now ≡ before) ((now ≡ before) ⊎ ((status : S) × Cause status × AppendsPrefix before now (line status)))

@@ -11,7 +11,7 @@ pub trait CallStatus: Copy {
     fn write_fault() -> Self
         ensures { kind result ≡ Unwritten };
 
-    /// The status for want of memory.
+    /// The status for lack of memory.
     fn no_memory() -> Self
         ensures { kind result ≡ NoMemory };
 }

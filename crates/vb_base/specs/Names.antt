@@ -13,7 +13,7 @@ is_name_start b = is_in_range 97 122 b || is_in_range 65 90 b || b == 95 || b ==
 abbrev pub is_name_byte : ℕ → Bool
 is_name_byte b = is_name_start b || is_ascii_digit b || b == 39
 
--- a name begins with the first kind of byte, and goes on with the second
+-- a name begins with the first kind of byte, and continues with the second
 abbrev pub is_name : List ℕ → Bool
 is_name [] = false
 is_name (b ∷ bytes) = is_name_start b && list_all is_name_byte bytes

@@ -1,11 +1,11 @@
--- What the reader of labels finds at the front of its bytes, and what it leaves.
+-- What the reader of labels finds at the beginning of its bytes, and what it leaves.
 use Rattle.std.specs.Prelude.{◌≡◌, ◌∷◌, ◌++◌, ◌^◌, ◌<◌, ◌≤◌, ℕ, List}
 use Rattle.std.specs.Char.{is_ascii_digit}
 use Rattle.std.specs.Fmt.{decimal}
 use Rattle.std.specs.List.{prefix_len}
 use Rattle.vb_base.specs.declared.places.Pos.{Pos}
 
--- how many digits stand at the front
+-- how many digits stand at the beginning
 abbrev pub digit_count : List ℕ → ℕ
 digit_count bytes = prefix_len is_ascii_digit bytes
 

@@ -1,4 +1,4 @@
--- The longest row of bytes of one kind at the front of a text, and what is behind it.
+-- The longest prefix of a text whose bytes are of one kind, and what is behind it.
 use Rattle.std.specs.Prelude.{ℕ, Bool, List, take, drop}
 use Rattle.std.specs.List.{prefix_len}
 

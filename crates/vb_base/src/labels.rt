@@ -171,7 +171,7 @@ fn number_of(digits: &[u8]) -> Option<u32>
     }
 }
 
-/// How many digits stand at the front.
+/// How many digits stand at the beginning.
 fn digit_count(bytes: &[u8]) -> usize
     ensures { result ≡ digit_count bytes.now }
 {

@@ -1,5 +1,5 @@
 //! What nearly every crate of the front end speaks of: places in a text, names, numbers, limits, the labels of failures, and the
-//! want of memory.
+//! lack of memory.
 #![tactic(auto)]
 
 mod bytes;

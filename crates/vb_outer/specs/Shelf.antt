@@ -1,4 +1,4 @@
--- What a shelf tells of its files, and what a call of it may do to that.
+-- What contracts see of the files of a shelf, and what a call of it may do to that.
 use Rattle.std.specs.Prelude.{◌≡◌, ℕ, ◌<◌, ◌≤◌, List, [], ◌++◌, length, take, ⊤, Option, None, Some, Result, MatchResult}
 use Rattle.std.specs.Io.KnownBytes.{prepend_known, IsAtEnd}
 
@@ -6,22 +6,22 @@ use Rattle.std.specs.Io.KnownBytes.{prepend_known, IsAtEnd}
 abbrev pub Files : Type 0
 Files = List ℕ → Option (List ℕ)
 
--- the shelf tells its files, and has none of that name
+-- the shelf is transparent, and has no file of that name
 abbrev pub IsMissing : Option Files → List ℕ → Type 0
 IsMissing None name = ⊥
 IsMissing (Some files) name = files name ≡ None
 
--- the shelf tells its files, and these bytes are the file of that name
+-- the shelf is transparent, and these bytes are the file of that name
 abbrev pub IsFile : Option Files → List ℕ → List ℕ → Type 0
 IsFile None name bytes = ⊥
 IsFile (Some files) name bytes = files name ≡ Some bytes
 
--- where the shelf tells its files, these bytes are the file of that name
+-- where the shelf is transparent, these bytes are the file of that name
 abbrev pub IsWhole : Option Files → List ℕ → List ℕ → Type 0
 IsWhole None name bytes = ⊤
 IsWhole (Some files) name bytes = files name ≡ Some bytes
 
--- where the shelf tells its files, the file of that name has more than `limit` bytes
+-- where the shelf is transparent, the file of that name has more than `limit` bytes
 abbrev pub IsLonger : Option Files → List ℕ → ℕ → Type 0
 IsLonger None name limit = ⊤
 IsLonger (Some files) name limit = (bytes : List ℕ) × (files name ≡ Some bytes) × (limit < length bytes)
@@ -30,7 +30,7 @@ IsLonger (Some files) name limit = (bytes : List ℕ) × (files name ≡ Some by
 abbrev pub IsClosed : Option (List ℕ) → Type 0
 IsClosed left = left ≡ Some []
 
--- where the shelf tells its files, all of the file of that name is left to read
+-- where the shelf is transparent, all of the file of that name is left to read
 abbrev pub IsBegun : Option Files → List ℕ → Option (List ℕ) → Type 0
 IsBegun None name left = ⊤
 IsBegun (Some files) name left = (bytes : List ℕ) × (files name ≡ Some bytes) × (left ≡ Some bytes)
@@ -56,7 +56,7 @@ GrowsBy before now front whole n = (bytes : List ℕ) × (length bytes ≡ n) ×
 abbrev pub Reads : {E : Type 0} → Option (List ℕ) → Option (List ℕ) → Result ℕ E → List ℕ → Type 0
 Reads before now result buf = MatchResult result (λ n. Takes before now (take n buf) × (n ≡ 0 → 0 < length buf → IsAtEnd now)) (λ _. TakesAtMost before now (length buf))
 
--- where the shelf tells its files, at most so many first bytes of the file of that name were taken
+-- where the shelf is transparent, at most so many first bytes of the file of that name were taken
 abbrev pub TakesOfFile : Option Files → List ℕ → Option (List ℕ) → ℕ → Type 0
 TakesOfFile None name left most = ⊤
 TakesOfFile (Some files) name left most = (bytes : List ℕ) × (files name ≡ Some bytes) × TakesAtMost (Some bytes) left most

@@ -6,7 +6,7 @@ use Rattle.std.specs.Io.KnownBytes.{append_known}
 abbrev pub Appends : Option (List ℕ) → Option (List ℕ) → List ℕ → Type 0
 Appends before now bytes = now ≡ append_known before bytes
 
--- the same of the front of a text, which may be nothing or all of it
+-- the same of a prefix of a text, which may be nothing or all of it
 abbrev pub AppendsPrefix : Option (List ℕ) → Option (List ℕ) → List ℕ → Type 0
 AppendsPrefix before now text = (front rest : List ℕ) × (text ≡ front ++ rest) × Appends before now front
 

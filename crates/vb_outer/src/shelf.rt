@@ -10,7 +10,7 @@ use std::alloc::{AllocError, Global};
 
 /// Files that are read by name, one at a time, from the first byte on.
 pub trait Shelf {
-    /// The files, where the shelf tells them.
+    /// The files, where the shelf is transparent to contracts. None where it is opaque.
     ghost files: { Self → Option Files };
 
     /// What is left to read of the begun file, where it is known. With no begun file nothing is left.
@@ -33,7 +33,7 @@ pub trait Shelf {
         ensures later { faults self.old ≤ faults self.new }
         ensures same { files self.new ≡ files self.old };
 
-    /// Reads the next bytes of the begun file into the front of the buffer, and answers how many: none in a buffer
+    /// Reads the next bytes of the begun file into a prefix of the buffer, and answers how many: none in a buffer
     /// that has room is the end of the file. A call that fails may have taken bytes, at most as many as the buffer has
     /// room for.
     fn read(&mut self, buf: &mut [u8]) -> Result<usize, Failed>

@@ -36,7 +36,7 @@ pub fn write_all<S: Sink>(sink: &mut S, bytes: &[u8]) -> Result<(), Failed>
     Ok(())
 }
 
-/// What is written in two calls is one text after another, and where the second failed, the first and a front of the
+/// What is written in two calls is one text after another, and where the second failed, the first and a prefix of the
 /// second.
 pub fn written_in_turn()
     ensures both { (before between now : Option (List ℕ)) (first second : List ℕ)

@@ -29,7 +29,7 @@ const NUMBER: (&str, &str) = (
 0 ; // a comment | viper  run |  | var x -7 ; viper run | var x -7",
 );
 
-/// A place of one field: what is given at the start, what is chosen in place of what was given up, and amounts.
+/// A place of one field: what is given at the start, what is chosen in place of what was exhaled, and amounts.
 const PLACE: (&str, &str) = (
     "field f: Int method m(x: Ref, n: Int) { exhale acc(x.f, wildcard) }",
     "\

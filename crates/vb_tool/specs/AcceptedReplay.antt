@@ -1,5 +1,5 @@
 -- Which run of a procedure the bytes of two files are, the text of a program of Boogie and a run file, and why they are
--- refused. Each step goes on from the one before: bytes spell a program, the program is well-typed, the header of the run
+-- refused. Each step continues from the one before: bytes spell a program, the program is well-typed, the header of the run
 -- file names one of its procedures, and the run file spells a run of that.
 use Rattle.std.specs.Prelude.{◌≡◌, ◌<◌, ◌≤◌, ℕ, List, length, slice_get, Some, None}
 use Rattle.vb_base.specs.Limits.{max_boogie_bytes}

@@ -103,7 +103,7 @@ Promises Has (Execute file method run_file n) status text = IsFramedEnd Has file
 Promises Has (Cut file) status text = IsCutOfFile Has file text
 Promises Has (Condition file procedure label) status text = IsStatement Has file procedure label text
 
--- The command that the words ask for does this. The bytes are those of its files; where the shelf does not tell its files, they
+-- The command that the words ask for does this. The bytes are those of its files; where the shelf is opaque to contracts, they
 -- are any bytes.
 pub record HasDone (words : List (List ℕ)) (files : Option Files) (status : Status) (text : List ℕ) : Type 0 where
   pub command : Command
@@ -138,15 +138,15 @@ EndsWith before now expected text status = EndsAs expected status × (status ≡
 abbrev pub Written : Option (List ℕ) → Option (List ℕ) → (Status → List ℕ → Type 0) → Status → Type 0
 Written before now IsText status = (text : List ℕ) × IsText status text × Appends before now text
 
--- the front of such a text was appended, or nothing
+-- a prefix of such a text was appended, or nothing
 abbrev pub FrontWritten : Option (List ℕ) → Option (List ℕ) → (Status → List ℕ → Type 0) → Type 0
 FrontWritten before now IsText = (now ≡ before) ⊎ ((status : Status) × (text : List ℕ) × IsText status text × AppendsPrefix before now text)
 
 -- what stands in the sink of the output: what the command writes, or what stood there before; after a fault of a sink, and for
--- want of memory, the front of what the command writes
+-- lack of memory, a prefix of what the command writes
 abbrev pub OutAfter : Option (List ℕ) → Option (List ℕ) → (Status → List ℕ → Type 0) → Status → Type 0
 OutAfter before now IsText status = OutOf (kind_of status) (Written before now IsText status) (now ≡ before) (FrontWritten before now IsText) (FrontWritten before now IsText)
 
--- what stands in the sink of errors: one more line, where the status has one; after a fault of a sink the front of such a line
+-- what stands in the sink of errors: one more line, where the status has one; after a fault of a sink a prefix of such a line
 abbrev pub ErrAfter : Option (List ℕ) → Option (List ℕ) → (Status → Type 0) → Status → Type 0
 ErrAfter before now Cause status = ends.ErrAfter kind_of line_of before now Cause status

@@ -61,8 +61,8 @@ abbrev pub CanBeWritten : Work → Type 0
 CanBeWritten (Translate program) = IsFormed (program_of program)
 CanBeWritten (Tell told) = ⊤
 
--- a text goes to the sink of the output, and the call ends with this status; but for a fault of the sink and for want of
--- memory, after which a front of the text stands there
+-- a text goes to the sink of the output, and the call ends with this status; but for a fault of the sink and for lack of
+-- memory, after which a prefix of the text stands there
 pub data Delivers (before now : Option (List ℕ)) (faults_before faults_now : ℕ) (text : List ℕ) (status : Status) : Status → Type 0 where
   of_text : {ended : Status} → written.Delivers kind_of before now faults_before faults_now text status ended → Delivers before now faults_before faults_now text status ended
   no_memory : AppendsPrefix before now text → Delivers before now faults_before faults_now text status NoMemory

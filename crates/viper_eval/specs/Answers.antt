@@ -21,7 +21,7 @@ end_of (evaluated.Fails l) = m.Fails l
 end_of evaluated.Blocked = m.Blocked
 end_of (evaluated.Over at) = m.Over at
 
--- how an opening ended, with what it goes on
+-- how an opening ended, with the value that it continues with
 abbrev pub goes_with : {X : Type 0} → X → Opening1 → m.End X
 goes_with x opening.Goes = m.Is x
 goes_with x (opening.Fails l) = m.Fails l

@@ -10,7 +10,7 @@ use Rattle.viper_meaning.specs.Ends.{Evaluated, is, blocks, then_with, found}
 use Rattle.viper_meaning.specs.Places.{key_of, taken}
 use Rattle.viper_meaning.specs.Value.{value, opened}
 
--- goes on where an assumption holds
+-- continues where an assumption holds
 abbrev pub assumed : Bool → Evaluated ⊤
 assumed true = is tt
 assumed false = blocks

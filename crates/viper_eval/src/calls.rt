@@ -24,7 +24,7 @@ use vb_value::{Content, Frac, Value};
 use viper_core::{Assertion, Expr};
 use viper_state::{Feed, Scene, State};
 
-/// How an evaluation ended, if not for want of memory.
+/// How an evaluation ended, if not for lack of memory.
 fn evaluated(answer: Result<Value, EvalHalt>) -> Result<Evaluated, Memory>
     ensures { (before since : List event.Event) (e : m.Evaluated Value) → Answers (λ v. v) before e since answer
         → IfOk result (λ v. m.after before e ≡ m.ends since (end_of v)) }
@@ -38,7 +38,7 @@ fn evaluated(answer: Result<Value, EvalHalt>) -> Result<Evaluated, Memory>
     }
 }
 
-/// How an opening ended, if not for want of memory.
+/// How an opening ended, if not for lack of memory.
 fn opening(answer: Result<(), EvalHalt>) -> Result<Opening1, Memory>
     ensures { (before since : List event.Event) (e : m.Evaluated tree.State) (s : tree.State)
         → Answers (λ _. s) before e since answer

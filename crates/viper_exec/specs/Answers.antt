@@ -30,7 +30,7 @@ pub data Executes {X Y : Type 0} (view : X → Y) (f : Feed) (budget : ℕ) (r :
   stops : {w : StepStop} → Takes f r budget left (λ more. ran g.events (stopped w) g.left) → Executes view f budget r g left (Err (quit.Halts (halt.Stops w)))
   spent : left ≡ 0 → Takes f r budget left (λ more. ran g.events (m.Goes Spent) g.left) → Executes view f budget r g left (Err quit.Spent)
 
--- The execution goes on as this machine does, from the second feed and budget, where more holds of the value; or it ends.
+-- The execution continues as this machine does, from the second feed and budget, where more holds of the value; or it ends.
 pub data Advances {X : Type 0} (f : Feed) (budget : ℕ) (r : ℕ → Run (Went Configuration)) (g : Feed) (left : ℕ) (m : Machine) (more : X → Type 0) : Result X Quit → Type 0 where
   goes_on : {x : X} → Takes f r budget left (λ n. run_of (going m n) g) → IsReadyMachine m g → more x → Advances f budget r g left m more (Ok x)
   ends : {w : Quit} → Executes {X = Configuration} (λ c. c) f budget r g left (Err w) → Advances f budget r g left m more (Err w)

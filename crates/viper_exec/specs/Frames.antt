@@ -33,7 +33,7 @@ pub data Frame : Type 0 where
   Turn : s.Loop → Frame
   -- the end of a body that begins at this place: the postconditions of its method are asserted
   End : Method → Pos → Frame
-  -- the caller goes on
+  -- the caller continues
   Return : Caller → Frame
 
 -- where an execution stands: the frame on top of the stack comes first
@@ -58,7 +58,7 @@ turns k (s.loop at guard invariants body turn targets) n c = exec_turns Bounded 
 abbrev pub turned : Activation → s.Loop → ℕ → Configuration → Run (Went Configuration)
 turned k (s.loop at guard invariants body turn targets) n c = asserting Bounded invariants c.state (scene k c turn) (exec_turns Bounded k at guard invariants (block k body) turn n n c)
 
--- the activation and the configuration of a caller that goes on
+-- the activation and the configuration of a caller that continues
 abbrev pub activation_at : Activation → Caller → Activation
 activation_at k from = record { program = k.program; vars = from.vars; old = from.old }
 
@@ -100,11 +100,11 @@ calling m at targets callee body args n = going_on (exec_call Bounded (bodies m.
 abbrev pub calling_bare : Machine → Pos → List ℕ → Method → List Value → ℕ → Run (Went Configuration)
 calling_bare m at targets callee args n = going_on (keeping n (called Bounded m.activation targets callee args at m.configuration)) (resume m.frames m.activation)
 
--- the machine whose caller goes on
+-- the machine whose caller continues
 abbrev pub returned_to : Machine → Caller → Machine
 returned_to m from = record { activation = activation_at m.activation from; configuration = configuration_at from m.configuration; frames = m.frames }
 
--- ---- what an execution needs to go on
+-- ---- what an execution needs to continue
 
 pub record IsReadyCaller (from : Caller) : Type 0 where
   pub old : IsWithinState from.old

@@ -1,4 +1,4 @@
-// Why an execution does not go on.
+// Why an execution does not continue.
 ghost use Rattle.std.specs.Prelude.{◌≡◌, suc, IfErr, IfOk};
 ghost use Rattle.viper_inhale.specs.Answers.{run_halt, run_stop};
 ghost use Rattle.viper_inhale.specs.declared.answers.StepHalt.TheVariants as halt;
@@ -7,7 +7,7 @@ ghost use Rattle.viper_exec.specs.declared.answers.Quit.TheVariants as quit;
 use vb_base::Memory;
 use viper_inhale::StepHalt;
 
-/// Why an execution does not go on.
+/// Why an execution does not continue.
 #[derive(Clone, Copy, Debug, PartialEq, Eq)]
 pub(crate) enum Quit {
     Halts(StepHalt),

@@ -144,7 +144,7 @@ pub(crate) fn end_body(
     )?)
 }
 
-/// The caller goes on, and its targets take the values of the returns.
+/// The caller continues, and its targets take the values of the returns.
 pub(crate) fn return_to<'a>(machine: &mut Machine<'a>, caller: Caller<'a>)
     ensures { machine_of machine.new ≡ returned_to (machine_of machine.old) (caller_of caller.entry) }
 {

@@ -97,7 +97,7 @@ fn exec_numbered(
     exec_begun(alloc, program, method, body, opening, budget, feed)
 }
 
-/// The end of an execution that did not go on, if not for want of memory.
+/// The end of an execution that did not continue, if not for lack of memory.
 fn end_of(why: Quit) -> Result<ExecEnd, Memory>
     ensures stops { (w : StepStop) → why ≡ quit.Halts (halt.Stops w) → result ≡ Ok (end_of (stopped {X = meaning.Went ⊤} w)) }
     ensures spent { why ≡ quit.Spent → result ≡ Ok end.Spent }

@@ -33,7 +33,7 @@ pub(crate) enum Frame<'a> {
     Turn(&'a Loop),
     /// The end of a body that begins at this place: the postconditions of its method are asserted.
     End(&'a Method, Pos),
-    /// The caller goes on.
+    /// The caller continues.
     Return(Box<Caller<'a>>),
 }
 
@@ -68,7 +68,7 @@ pub(crate) fn add_frame<'a>(frames: &mut Vec<Frame<'a>>, frame: Frame<'a>) -> Re
     Ok(frames.push(frame)?)
 }
 
-/// A caller on top, which goes on after the frames above it.
+/// A caller on top, which continues after the frames above it.
 pub(crate) fn add_caller<'a>(
     alloc: Global,
     frames: &mut Vec<Frame<'a>>,

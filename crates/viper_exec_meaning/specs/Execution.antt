@@ -1,6 +1,6 @@
 -- Whole executions (operational semantics as of Parthasarathy, Dardinier, Bonneau, Mueller, Summers, "Towards Trustworthy
 -- Automated Program Verifiers", PLDI 2024, but with calls and loops that are run): a call runs the body of the method that is
--- called, and a loop its turns, all on one state. Contracts and invariants are asserted where they are met, and give up nothing. A
+-- called, and a loop its turns, all on one state. Contracts and invariants are asserted where they are met, without loss of permission. A
 -- budget says how many turns and called bodies may begin. All else is done as in the run of a unit.
 use Rattle.std.specs.Prelude.{◌≡◌, ℕ, zero, suc, ◌+◌, Option, Some, None, List, ◌++◌, slice_get, take, drop, if◌then◌else◌}
 use Rattle.std.specs.List.{range_with_len}
@@ -21,12 +21,12 @@ use Rattle.viper_meaning.specs.Value.{values, truth_in}
 
 -- ---- the budget
 
--- It went on, and so many turns and bodies may still begin; or one was to begin, and none was left.
+-- It continued, and so many turns and bodies may still begin; or one was to begin, and none was left.
 pub data Went (X : Type 0) : Type 0 where
   Still : ℕ → X → Went X
   Spent : Went X
 
--- goes on where the budget was not spent
+-- continues where the budget was not spent
 abbrev pub with_went : {X Y : Type 0} → Went X → (ℕ → X → Run (Went Y)) → Run (Went Y)
 with_went (Still n x) go = go n x
 with_went Spent go = goes Spent

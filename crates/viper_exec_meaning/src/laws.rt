@@ -7,7 +7,7 @@ ghost use Rattle.viper_meaning.specs.Run.{Goes, Fails, ran, on};
 ghost use Rattle.viper_exec_meaning.specs.Execution.{Still, Spent, execution};
 ghost use Rattle.viper_exec_meaning.specs.Worked.{adding, at_4_23, at_5_1, beginning_at, holding};
 
-/// A method calls another twice, whose body runs each time on the state as it is: the call gives up nothing, and adds to the field.
+/// A method calls another twice, whose body runs each time on the state as it is: the call loses no permission, and adds to the field.
 /// A budget of two is enough for it, and with a budget of one the second call finds nothing left. Where the body adds too much, its
 /// own postcondition fails, at the place of its body.
 pub fn a_method_calls_twice()

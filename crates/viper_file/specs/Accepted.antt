@@ -1,4 +1,4 @@
--- Which program the bytes of a file are, and why they are refused. Each step goes on from the one before: bytes are cut into tokens,
+-- Which program the bytes of a file are, and why they are refused. Each step continues from the one before: bytes are cut into tokens,
 -- tokens spell a tree, and a tree is a typed program.
 use Rattle.std.specs.Prelude.{◌≡◌, ◌<◌, ◌≤◌, ℕ, List, length}
 use Rattle.vb_base.specs.Limits.{max_viper_bytes, max_weight, too_heavy}

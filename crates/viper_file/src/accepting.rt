@@ -15,7 +15,7 @@ use viper_parse::parse;
 use viper_syntax::lex;
 use viper_types::check;
 
-/// The typed program of a file. What a stage leaves over is given up before the next.
+/// The typed program of a file. What a stage leaves over is freed before the next.
 ///
 /// A text that is refused is `Refused`, for the reason that the contract tells. `Memory` where there is no memory.
 pub fn typed_program(alloc: Global, bytes: &[u8]) -> Result<Program, ViperFault>

@@ -24,7 +24,7 @@ abbrev pub run_halt : EvalHalt → StepHalt
 run_halt evaluation.Memory = halt.Memory
 run_halt (evaluation.Stops w) = halt.Stops (run_stop w)
 
--- how a step ended, with what it goes on
+-- how a step ended, with the value that it continues with
 abbrev pub step_of : {X : Type 0} → X → Step → m.Step X
 step_of x step.Goes = m.Goes x
 step_of x (step.Fails l) = m.Fails l
@@ -32,7 +32,7 @@ step_of x step.Blocked = m.Blocked
 step_of x step.Short = m.Short
 step_of x (step.Over at) = m.Over at
 
--- an end after which nothing goes on
+-- an end after which nothing continues
 abbrev pub stopped : {X : Type 0} → StepStop → m.Step X
 stopped (stop.Fails l) = m.Fails l
 stopped stop.Blocked = m.Blocked

@@ -19,7 +19,7 @@ pub enum Step {
     Over(Pos),
 }
 
-/// An end of a step after which nothing goes on.
+/// An end of a step after which nothing continues.
 #[derive(Clone, Copy, Debug, PartialEq, Eq)]
 pub enum StepStop {
     Fails(Label),
@@ -31,7 +31,7 @@ pub enum StepStop {
     Over(Pos),
 }
 
-/// Why a step does not go on.
+/// Why a step does not continue.
 #[derive(Clone, Copy, Debug, PartialEq, Eq)]
 pub enum StepHalt {
     /// There was no memory.

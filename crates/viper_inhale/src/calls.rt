@@ -26,7 +26,7 @@ use viper_core::Assertion;
 use viper_eval::SceneRef;
 use viper_state::{Feed, Scene, State};
 
-/// How a step ended, if not for want of memory.
+/// How a step ended, if not for lack of memory.
 pub fn step(answer: Result<(), StepHalt>) -> Result<Step, Memory>
     ensures { (f g : Fed) (r : run.Run tree.State) (s : tree.State) → Does (λ _. s) f r g answer
         → IfOk result (λ step. run_of r f ≡ run.ran g.events (step_of s step) g.left) }

@@ -33,7 +33,7 @@ pub(crate) fn all_keys<K: Ord + Clone + Drop, V: Eq + Clone + Drop>(
     Ok(list)
 }
 
-/// Looks for a key among entries in ascending order, from an index on: the index where the search for a greater key goes on, and
+/// Looks for a key among entries in ascending order, from an index on: the index where the search for a greater key continues, and
 /// whether an entry has the key.
 fn sought<K: Ord, V>(entries: &[&(K, V)], start: usize, key: &K) -> (usize, bool)
     requires { (k q : K) → K.cmp k q ≡ Equal → k ≡ q }

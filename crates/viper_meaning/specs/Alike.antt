@@ -7,7 +7,7 @@ use Rattle.viper_state.specs.Event.{Event}
 use Rattle.viper_meaning.specs.Run.{Ran, ran, Goes, Fails, Blocked, Short, Over}
 use Rattle.viper_meaning.specs.Statements.{Configuration}
 
--- the same events, the same end, and the same choices left. What they go on with is related.
+-- the same events, the same end, and the same choices left. What they continue with is related.
 pub data RanAlike {X Y : Type 0} (R : X → Y → Type 0) : Ran X → Ran Y → Type 0 where
   goes : {events : List Event} {x : X} {y : Y} {left : List Choice} → R x y → RanAlike R (ran events (Goes x) left) (ran events (Goes y) left)
   fails : {events : List Event} {l : Label} {left : List Choice} → RanAlike R (ran events (Fails l) left) (ran events (Fails l) left)

@@ -1,4 +1,4 @@
--- How evaluating ends, and the ways to go on. The events are those that are recorded on the way, in order.
+-- How evaluating ends, and the ways to continue. The events are those that are recorded on the way, in order.
 use Rattle.std.specs.Prelude.{⊤, Bool, true, false, Option, Some, None, List, [], ◌∷◌, ◌++◌}
 use Rattle.vb_base.specs.declared.labels.Label.{Label}
 use Rattle.vb_base.specs.declared.labels.Kind.{Kind}
@@ -39,7 +39,7 @@ blocks = ends [] Blocked
 abbrev pub after : {X : Type 0} → List Event → Evaluated X → Evaluated X
 after before (ends events end) = ends (before ++ events) end
 
--- goes on with the value, or ends
+-- continues with the value, or ends
 abbrev pub then_with : {X Y : Type 0} → Evaluated X → (X → Evaluated Y) → Evaluated Y
 then_with (ends events (Is x)) go = after events (go x)
 then_with (ends events (Fails l)) go = ends events (Fails l)
@@ -51,12 +51,12 @@ abbrev pub found : {X : Type 0} → Option X → Evaluated X
 found (Some x) = is x
 found None = blocks
 
--- goes on where the test holds, or ends
+-- continues where the test holds, or ends
 abbrev pub unless : {X : Type 0} → Bool → Evaluated X → Evaluated X → Evaluated X
 unless true instead go = instead
 unless false instead go = go
 
--- records an event, and goes on
+-- records an event, and continues
 abbrev pub recorded : {X : Type 0} → Event → Evaluated X → Evaluated X
 recorded e go = after (e ∷ []) go
 

@@ -1,5 +1,5 @@
 -- Runs: what takes choices from outside. A run is a tree. It ends as an evaluation does; or it records events, takes the next
--- choice, and goes on as that one says. So a definition by runs says at which point a choice is taken, and for what, and
+-- choice, and continues as that one says. So a definition by runs says at which point a choice is taken, and for what, and
 -- nothing of lists of choices.
 use Rattle.std.specs.Prelude.{Bool, true, false, Option, Some, None, List, [], ◌∷◌, ◌++◌}
 use Rattle.vb_base.specs.declared.labels.Label.{Label}
@@ -16,7 +16,7 @@ pub data Run (X : Type 0) : Type 0 where
   ended : Evaluated X → Run X
   takes : List Event → (Choice → Run X) → Run X
 
--- ---- ways to go on
+-- ---- ways to continue
 
 abbrev pub goes : {X : Type 0} → X → Run X
 goes x = ended (is x)
@@ -30,24 +30,24 @@ before events (takes first next) = takes (events ++ first) next
 abbrev pub noting : {X : Type 0} → Event → Run X → Run X
 noting e go = before (e ∷ []) go
 
--- goes on with the value of an evaluation, or ends
+-- continues with the value of an evaluation, or ends
 abbrev pub evaluating : {X Y : Type 0} → Evaluated X → (X → Run Y) → Run Y
 evaluating (ends events (m.Is x)) go = before events (go x)
 evaluating (ends events (m.Fails l)) go = ended (ends events (m.Fails l))
 evaluating (ends events m.Blocked) go = ended (ends events m.Blocked)
 evaluating (ends events (m.Over at)) go = ended (ends events (m.Over at))
 
--- goes on with the value of a run, or ends
+-- continues with the value of a run, or ends
 abbrev pub then_do : {X Y : Type 0} → Run X → (X → Run Y) → Run Y
 then_do (ended e) go = evaluating e go
 then_do (takes events next) go = takes events (λ c. then_do (next c) go)
 
--- goes on with what a choice gives. A choice of another kind or type than the step needs blocks.
+-- continues with what a choice gives. A choice of another kind or type than the step needs blocks.
 abbrev pub given : {K X : Type 0} → Option K → (K → Run X) → Run X
 given (Some k) go = go k
 given None go = ended blocks
 
--- takes the next choice, and goes on with what it gives
+-- takes the next choice, and continues with what it gives
 abbrev pub taking : {K X : Type 0} → (Choice → Option K) → (K → Run X) → Run X
 taking kind go = takes [] (λ c. given (kind c) go)
 
@@ -91,7 +91,7 @@ on (takes events next) (c ∷ choices) = since events (on (next c) choices)
 
 -- ---- what is said of ends
 
--- goes on with the value and the choices that are left, or ends
+-- continues with the value and the choices that are left, or ends
 abbrev pub then_ran : {X Y : Type 0} → Ran X → (X → List Choice → Ran Y) → Ran Y
 then_ran (ran events (Goes x) left) go = since events (go x left)
 then_ran (ran events (Fails l) left) go = ran events (Fails l) left

@@ -93,7 +93,7 @@ SatAll (a ∷ rest) s sc amounts = Sat (conjoined a rest) s sc amounts
 abbrev pub memo_of_state : State → Memo
 memo_of_state s = record { heap = s.heap; content = s.content }
 
--- It never blocks and lacks no choice, and where it goes on, what it reaches has the property and these choices are left.
+-- It never blocks and lacks no choice, and where it continues, what it reaches has the property and these choices are left.
 abbrev pub Arrives : {X : Type 0} → (X → Type 0) → List Choice → Ran X → Type 0
 Arrives P left (ran events (Goes x) rest) = P x × (rest ≡ left)
 Arrives P left (ran events (Fails l) rest) = ⊤

@@ -61,7 +61,7 @@ taking_values us (x ∷ xs) = evaluating (found (slice_get us x)) (λ u. taking_
 abbrev pub taking_state : {X : Type 0} → Program → (State → Run X) → Run X
 taking_state program go = taking (memo_in program.layout) (λ m. noting (event.Whole m) (go (empty_state program.layout m)))
 
--- the run is made for its failures alone: where it would go on, it blocks
+-- the run is made for its failures alone: where it would continue, it blocks
 abbrev pub in_vain : {X Y : Type 0} → Run X → Run Y
 in_vain r = then_do r (λ x. ended blocks)
 
@@ -103,7 +103,7 @@ abbrev pub consume_all : Bound → List t.Assertion → State → Scene → Stat
 consume_all b [] start sc left = goes left
 consume_all b (a ∷ rest) start sc left = then_do (consume b a start sc write left) (consume_all b rest start sc)
 
--- what is consumed is given up: what is then no longer held is forgotten
+-- what is consumed is lost: what is then no longer held is forgotten
 abbrev pub exhale_all : Bound → Program → List t.Assertion → State → Scene → Run State
 exhale_all b program clauses s sc = then_do (consume_all b clauses s sc s) (forget program.layout)
 
@@ -170,7 +170,7 @@ run_turn b k at guard invariants body turn c =
     then then_do (body (with_state c s)) (λ d. consume_all b invariants d.state (scene k d turn) d.state)
     else ended blocks)))
 
--- The invariant is given up, and the loop targets take any values. Then the run makes one arbitrary turn, or goes on after the
+-- The invariant is exhaled, and the loop targets take any values. Then the run makes one arbitrary turn, or continues after the
 -- loop.
 abbrev pub run_loop : Bound → Activation → Pos → t.Expr → List t.Assertion → (Configuration → Run Configuration) → Pos → List ℕ → Configuration → Run Configuration
 run_loop b k at guard invariants body turn targets c =

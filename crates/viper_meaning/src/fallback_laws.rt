@@ -64,7 +64,7 @@ pub fn a_typed_instance_is_found()
 {}
 
 /// To consume a typed assertion without `wildcard` and `unfolding` is never blocked: from states and a scene that fit the
-/// program it goes on, fails, or is over.
+/// program it continues, fails, or is over.
 pub fn consuming_is_never_blocked()
     ensures { (b : Bound) (c : Context) (a : t.Assertion) (start : State) (sc : Scene) (k : Fraction) (left : State)
         → IsFormed c.program → IsAssertion c a → HasNoWildcard a → AssertionOpensNothing a

@@ -35,7 +35,7 @@ pub fn what_is_produced_satisfies()
 {}
 
 /// Let a state satisfy an assertion. Where the assertion is produced in the state with the same heap and contents in which
-/// nothing is held, on the amounts of its wildcards, it never blocks and lacks no choice; and where it goes on, it reaches
+/// nothing is held, on the amounts of its wildcards, it never blocks and lacks no choice; and where it continues, it reaches
 /// exactly the state that satisfies it, and leaves the other choices. It may fail, as the order of its parts says.
 pub fn what_satisfies_is_reached()
     ensures unbounded { (l : Layout) (a : t.Assertion) (sc : Scene) (u : State) (qs : List Fraction) (left : List Choice)

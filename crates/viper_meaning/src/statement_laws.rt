@@ -254,7 +254,7 @@ pub fn a_new_reference_is_unknown()
 {}
 
 /// Where a body contains something in one state, to produce it from that in another, with the same values and contents, ends as
-/// to produce it does, whatever is held. Producing it takes no choice, and changes nothing but what is held. Neither need go on
+/// to produce it does, whatever is held. Producing it takes no choice, and changes nothing but what is held. Neither need continue
 /// where the body was consumed: `x.f > 0 && acc(x.f)` reads the field before it gives the permission to it.
 pub fn a_body_produced_from_what_it_contains_is_produced()
     ensures { (b : Bound) (l : Layout) (a : t.Assertion) (c : Content) (s u : State) (sc : Scene) (k : Fraction)

@@ -40,7 +40,7 @@ ghost use Rattle.viper_meaning.specs.Statements.{Activation, Configuration, taki
 ghost use Rattle.viper_meaning.specs.Units.{first_store, first_scene, begin_method, Begins, run_method, unit_run};
 ghost use Rattle.viper_meaning.specs.Value.{value, opened};
 
-/// Where nothing is held all is forgotten. So a run that takes any state in which nothing is held is one that gives up what a
+/// Where nothing is held all is forgotten. So a run that takes any state in which nothing is held is one that loses what a
 /// state holds, and forgets.
 pub fn where_nothing_is_held_all_is_forgotten()
     ensures forgotten { (l : Layout) (s : State) (m : Memo) → FitsState l s → FitsMemo l m
@@ -70,7 +70,7 @@ pub fn what_clauses_make_satisfies_them()
 
 /// Let a state satisfy clauses, or hold nothing where there is none. Where they are produced in the state with the same heap
 /// and contents in which nothing is held, on the amounts of their wildcards, they never block and lack no choice; and where
-/// they go on, they reach exactly the state that satisfies them, and leave the other choices.
+/// they continue, they reach exactly the state that satisfies them, and leave the other choices.
 pub fn what_satisfies_clauses_is_reached()
     ensures { (b : Bound) (l : Layout) (clauses : List t.Assertion) (sc : Scene) (u : State) (qs : List Fraction)
         (left : List Choice) → All (IsProperAssertion Unbounded) clauses → IsProperScene Unbounded sc → FitsState l u
@@ -111,7 +111,7 @@ pub fn a_method_begins_where_its_precondition_is_satisfied()
         → Begins b program m o s → (qs : List Fraction) × SatAll m.preconditions s (first_scene program m o) qs }
 {}
 
-/// A loop changes no variable but its targets, since it goes on after its turns and no turn goes on. What a block does not
+/// A loop changes no variable but its targets, since it continues after its turns and no turn continues. What a block does not
 /// assign, and what was numbered before it, keeps its value. So of the visible variables a turn changes the targets alone: the
 /// others that it changes are declared in it.
 pub fn a_loop_changes_only_its_targets()
@@ -128,8 +128,8 @@ pub fn a_loop_changes_only_its_targets()
 {}
 
 /// A statement looks at visible variables alone. From two configurations with the same state whose visible variables have the
-/// same values it runs alike on any choices: with the same events, the same end and the same choices left, and where it goes
-/// on, to the same state and the same values of the variables that are then visible.
+/// same values it runs alike on any choices: with the same events, the same end and the same choices left, and where it
+/// continues, to the same state and the same values of the variables that are then visible.
 pub fn a_statement_looks_at_visible_variables_alone()
     ensures stmt { (b : Bound) (m : MethodContext) (sc : Scope) (a : Activation) (x : Stmt) (c d : Configuration)
         (choices : List Choice) → IsStmt m sc x → LooksAlike sc.visible c d

@@ -68,7 +68,7 @@ fn level<'a>(alloc: Global, n: u32, tokens: &'a [Token]) -> ViperRead<'a, Writte
     Ok((part, rest))
 }
 
-/// What goes on with a term by operators of level n.
+/// What continues a term by operators of level n.
 #[cycle(terms)]
 fn chain<'a>(
     alloc: Global,
@@ -92,7 +92,7 @@ fn chain<'a>(
     Ok((part, rest))
 }
 
-/// The next operator, if it is of level n and may go on with this term.
+/// The next operator, if it is of level n and may continue this term.
 fn operator<'a>(
     n: u32,
     part: &WrittenTerm,

@@ -26,13 +26,13 @@ abbrev pub held_whole : Scene → State → ℕ → Pos → ℕ → Evaluated �
 held_whole sc s field at r =
     unless (r == 0) (fails sc at kind.Null) (then_with (found (mask_at s field r)) (λ held. unless (not (fraction_eq held write)) (fails sc at kind.Perm) (is tt)))
 
--- before a loop: the invariant is given up, and the loop targets take any values
+-- before a loop: the invariant is exhaled, and the loop targets take any values
 abbrev pub loop_entered : Activation → Pos → List t.Assertion → List ℕ → Configuration → Run Configuration
 loop_entered k at invariants targets c =
     then_do (exhale_all Bounded k.program invariants c.state (scene k c at)) (λ s.
     then_do (taking_values k.vars targets) (λ vs. goes (record { store = stored c.store targets vs; state = s })))
 
--- goes on where something holds, or where it does not
+-- continues where something holds, or where it does not
 abbrev pub goes_when : {X : Type 0} → Bool → Bool → X → Run X
 goes_when true holds x = if holds then goes x else ended blocks
 goes_when false holds x = if holds then ended blocks else goes x

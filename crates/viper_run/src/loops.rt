@@ -19,7 +19,7 @@ use viper_eval::{assumed, truth_of};
 use viper_inhale::{StepHalt, StepStop};
 use viper_state::{Feed, copy_state};
 
-/// The invariant is given up, and the loop targets take any values.
+/// The invariant is exhaled, and the loop targets take any values.
 pub(crate) fn enter_loop(
     alloc: Global,
     activation: Activation,
@@ -46,7 +46,7 @@ pub(crate) fn enter_loop(
     Ok(())
 }
 
-/// The invariant is produced on top of what is held. A turn goes on where the guard holds, and the loop is left where it does not.
+/// The invariant is produced on top of what is held. A turn continues where the guard holds, and the loop is left where it does not.
 pub(crate) fn assume_guard(
     alloc: Global,
     activation: Activation,
@@ -93,7 +93,7 @@ pub(crate) fn begin_turn(
     assume_guard(alloc, activation, turns, true, configuration, feed)
 }
 
-/// A turn ends with the invariant. Nothing goes on after it.
+/// A turn ends with the invariant. Nothing continues after it.
 pub(crate) fn end_turn(
     alloc: Global,
     activation: Activation,

@@ -130,7 +130,7 @@ pub(crate) fn run_block(
     Ok(())
 }
 
-/// Runs a loop: it makes one arbitrary turn, or goes on after the loop.
+/// Runs a loop: it makes one arbitrary turn, or continues after the loop.
 #[cycle(running)]
 fn run_loop(
     alloc: Global,

@@ -46,7 +46,7 @@ pub fn first_store(alloc: Global, method: &Method, given: &[Value]) -> Result<St
     Ok(Store { values })
 }
 
-/// Checks the postcondition by itself: it is produced in any state in which nothing is held. Nothing goes on after it.
+/// Checks the postcondition by itself: it is produced in any state in which nothing is held. Nothing continues after it.
 fn check_postcondition(
     alloc: Global,
     activation: Activation,
@@ -281,7 +281,7 @@ pub struct Run {
     pub unused: usize,
 }
 
-/// The outcome of an end after which nothing goes on, if not for want of memory.
+/// The outcome of an end after which nothing continues, if not for lack of memory.
 fn outcome(halt: StepHalt) -> Result<Outcome, Memory>
     ensures stops { (w : StepStop) → halt ≡ ended.Stops w → result ≡ Ok (outcome_of (stopped {X = ⊤} w)) }
     ensures memory { halt ≡ ended.Memory → IsErr result }

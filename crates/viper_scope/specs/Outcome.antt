@@ -1,4 +1,4 @@
--- What a part of a file is typed as, or the first rule that it breaks. Each way to go on is one of these functions, over parts
+-- What a part of a file is typed as, or the first rule that it breaks. Each way to continue is one of these functions, over parts
 -- of any kind: what stands first is tried first, and a broken rule is told at once.
 use Rattle.std.specs.Prelude.{Bool, true, false, Option, Some, None, List, ◌∷◌, ◌++◌}
 use Rattle.vb_base.specs.declared.places.Pos.{Pos}

@@ -1,4 +1,4 @@
--- Where a run begins, and what it goes on with.
+-- Where a run begins, and what it continues with.
 use Rattle.std.specs.Prelude.{List}
 use Rattle.vb_base.specs.declared.places.Pos.{Pos}
 use Rattle.vb_value.specs.declared.values.Value.{Value}

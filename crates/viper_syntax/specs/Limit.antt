@@ -75,7 +75,7 @@ is_refused (k.Sign s) = false
 abbrev pub refused : List Token → ℕ
 refused ts = count_by (λ t. is_refused t.tok) ts
 
--- after no front of these tokens the count is above the limit
+-- after no prefix of these tokens the count is above the limit
 abbrev pub StaysWithin : (List Token → ℕ) → ℕ → List Token → Type 0
 StaysWithin count limit ts = (n : ℕ) → count (take n ts) ≤ limit
 

@@ -49,12 +49,12 @@ pub data IsPiece (bs : List ℕ) : Piece → Type 0 where
   comment : {p : Piece} → IsComment bs p → IsPiece bs p
   token : {t : Tok} → IsToken bs t → IsPiece bs (Taken t)
 
--- the first n bytes are this piece, and no longer front of these bytes is a piece
+-- the first n bytes are this piece, and no prefix of these bytes that is longer is a piece
 pub record IsLongest (bs : List ℕ) (n : ℕ) (p : Piece) : Type 0 where
   pub within : n ≤ length bs
   pub piece : IsPiece (take n bs) p
   pub longest : (m : ℕ) (q : Piece) → m ≤ length bs → IsPiece (take m bs) q → m ≤ n
 
--- no front of these bytes is a piece
+-- no prefix of these bytes is a piece
 abbrev pub BeginsNoPiece : List ℕ → Type 0
 BeginsNoPiece bs = (n : ℕ) (p : Piece) → n ≤ length bs → IsPiece (take n bs) p → ⊥

@@ -242,7 +242,7 @@ fn knows_greatest(state: &State) -> bool {
     true
 }
 
-/// How the call of a row ends, what is left and what is recorded. Where the run goes on, the state is as it should be.
+/// How the call of a row ends, what is left and what is recorded. Where the run continues, the state is as it should be.
 fn told_in(
     alloc: Global,
     assertion: &Assertion,

@@ -1,4 +1,4 @@
--- How a function of the code answers what is judged: the value, or the first broken rule, or the want of memory.
+-- How a function of the code answers what is judged: the value, or the first broken rule, or the lack of memory.
 use Rattle.std.specs.Prelude.{ℕ, Bool, Option, Some, None, List, map}
 use Rattle.std.proofs.Common.{Bor}
 use Rattle.std.specs.declared.vec.Vec.{Vec}
