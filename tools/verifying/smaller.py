@@ -4,7 +4,8 @@ from fractions import Fraction
 
 from .walk import DEFAULTS, Walk
 
-SECONDS = 0.6       # of the processor, for one run
+MOST_WORK = 200_000     # walks times variables for one run, which take about 0.6 seconds; so a busy machine finds the same run
+SECONDS = 1.2       # of the processor, where walks take longer
 ROUNDS = 3
 INTS = (0, 1, 2, -1, 3, -2, 5, 10)
 MOST_PARTS = 64     # so many parts of a content are looked at
@@ -76,14 +77,15 @@ class Smaller:
 
     def __init__(self, procedure, values, label):
         self.procedure, self.values, self.label, self.entered = procedure, values, label, set()
-        self.end = time.process_time() + SECONDS
+        self.end, self.work = time.process_time() + SECONDS, 0
 
     def fails(self):
+        self.work += len(self.procedure.locals)
         end = Walk(self.procedure, self.values.given).run()
         return end.how == "failed" and end.label == self.label
 
     def late(self):
-        return time.process_time() > self.end
+        return self.work > MOST_WORK or time.process_time() > self.end
 
     def found(self):
         """The simplest values that were found."""

@@ -7,7 +7,7 @@ from verifying.boogie_text import NotAsWritten, procedure_texts, read_procedure
 from verifying.conditions import read_conditions
 from verifying.question import Question
 from verifying.search import new_objects
-from verifying.smaller import FRESH, Smaller, Values
+from verifying.smaller import FRESH, MOST_WORK, Smaller, Values
 from verifying.symbolic import symbolic_of
 from verifying.walk import Walk
 
@@ -132,6 +132,15 @@ class Runs(unittest.TestCase):
         found = Smaller(procedure(), self.values(), "3:1 3:3 false").found()
         self.assertEqual(found.scalars, {0: 1, 1: 1, 7: True, 8: 1})
         self.assertEqual(found.tables, {})
+
+    def test_values_are_tried_up_to_an_amount_of_work(self):
+        small = Smaller(procedure(), self.values(), "3:1 3:3 false")
+        small.found()
+        self.assertEqual(small.work % len(small.procedure.locals), 0)
+        self.assertTrue(0 < small.work <= MOST_WORK and not small.late())
+        small = Smaller(procedure(), self.values(), "3:1 3:3 false")
+        small.work = MOST_WORK + 1
+        self.assertEqual((small.found().scalars, small.work), (self.values().scalars, MOST_WORK + 1))
 
     def test_contents_are_made_simpler_where_the_run_does_not_open_them(self):
         opened = read_procedure("""procedure p() { var s: Snap; var l: Snap; var r: Snap; var w: int;
