@@ -235,7 +235,7 @@ class Step:
             return self.of_own(it)
         if self.word == "while" and own and clause == "invariant" and self.source.loop_of(self.clause) == self.at:
             return self.clause_words(True, "an invariant might not hold where the loop begins", "an invariant might not be well-defined",
-                                     [(*self.source.place(self.at), "of this loop")])
+                                     [(*self.source.place(self.at), "the loop begins here")])
         if it.callee is not None and self.home.kind == "method":
             return self.of_call(it, clause)
         if it.kind in ("fold", "unfold") and self.home.kind == "predicate" and self.is_opened_by(it):
@@ -253,7 +253,7 @@ class Step:
         if not given_up or it.kind not in STEPS:
             return self.at_part(message)
         step, part = self.source.place(self.at), self.source.place(self.part)
-        notes = [(*step, f"of this {it.kind}")] if step[0] != part[0] else []
+        notes = [(*step, f"the {it.kind} begins here")] if step[0] != part[0] else []
         return self.at_part(f"this {it.kind} might fail: {message}", notes)
 
     def of_call(self, it, clause):

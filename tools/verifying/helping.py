@@ -72,8 +72,8 @@ class Changes(Lines):
         """A clause of a contract in words, with the line behind which it has to stand, as it reads what clauses before it give."""
         at = self.clause(unit, word, text).start
         is_first = not self.again.contract(unit, word) and not self.again.contract(unit, "requires")
-        where = "" if is_first or "." not in text or not self.ends_line(at) else f" behind line {place_in(self.source.data, at)[0]}"
-        return f"`{word} {text}` of `{unit.name}`{where}"
+        where = "" if is_first or "." not in text or not self.ends_line(at) else f" after line {place_in(self.source.data, at)[0]}"
+        return f"`{word} {text}` added to `{unit.name}`{where}"
 
     def ends_line(self, at):
         """Whether nothing but blanks stands behind a place in its line."""
@@ -150,10 +150,10 @@ class Changes(Lines):
             place, column = self.source.tokens[self.step.first].line, self.source.tokens[self.step.first].column
             if self.step.kind == "assert" and self.fault.node.kind == "field":
                 inner_text = self.source.tokens[self.step.first + 1].start
-                yield Change(f"`unfolding {text} in` behind this `assert`", (Insertion(inner_text, inner_text, f"unfolding {text} in "),))
+                yield Change(f"`unfolding {text} in` added right after `assert`", (Insertion(inner_text, inner_text, f"unfolding {text} in "),))
             both = self.before(self.step.first, f"unfold {text}"), self.behind(self.step.last, f"fold {text}", column)
-            yield Change(f"`unfold {text}` in front of line {place} and `fold {text}` behind it", both)
-            yield Change(f"`unfold {text}` in front of line {place}", both[:1])
+            yield Change(f"`unfold {text}` added before line {place} and `fold {text}` after it", both)
+            yield Change(f"`unfold {text}` added before line {place}", both[:1])
 
     def term(self, instance, held):
         """An instance as it is written in front of the failing step, or None where its arguments cannot be."""
@@ -187,11 +187,11 @@ class Changes(Lines):
         if self.step.kind in ("end", "turn"):
             column = self.source.tokens[self.step.first].column + 2
             last = self.step.first - 1
-            yield Change(f"`fold {text}` at the end of the body", (self.behind(last, f"fold {text}", column),))
+            yield Change(f"`fold {text}` added at the end of the body", (self.behind(last, f"fold {text}", column),))
             return
         line = self.source.tokens[self.step.first].line
         yield from self.moved(self.moves.fold_before())
-        yield Change(f"`fold {text}` in front of line {line}", (self.before(self.step.first, f"fold {text}"),))
+        yield Change(f"`fold {text}` added before line {line}", (self.before(self.step.first, f"fold {text}"),))
         yield from self.moved(self.moves.fold_in_block(text))
 
     def kept_by_loop(self, is_place):
@@ -201,7 +201,8 @@ class Changes(Lines):
             if step.kind == "while" and before > after:
                 text = self.spelled(self.fault.node)
                 said = text if not is_place and before == 1 else f"acc({text})" if before == 1 else f"acc({text}, {amount(before)})"
-                yield Change(f"`invariant {said}` of the loop in line {self.source.tokens[step.first].line}", (self.invariant(step, said),))
+                line = self.source.tokens[step.first].line
+                yield Change(f"`invariant {said}` added to the loop in line {line}", (self.invariant(step, said),))
                 return
 
     def required(self, is_place):
@@ -213,9 +214,9 @@ class Changes(Lines):
         if self.step.kind in ("requires", "ensures"):
             start = self.source.tokens[self.step.first + 1].start
             word_ = self.source.said(self.step.first)
-            yield Change(f"`{said} &&` behind this `{word_}`", (Insertion(start, start, f"{said} && "),))
+            yield Change(f"`{said} &&` added right after this `{word_}`", (Insertion(start, start, f"{said} && "),))
         elif self.needs.held(self.fault.left, is_place) == 0 and self.fault.scene.around is None and not self.asks_for(text):
-            yield Change(f"`requires {said}` of `{self.unit.name}`", (self.clause(self.unit, "requires", said),))
+            yield Change(f"`requires {said}` added to `{self.unit.name}`", (self.clause(self.unit, "requires", said),))
 
     def asks_for(self, text):
         """Whether the precondition asks for something already, in whatever case."""
@@ -324,7 +325,7 @@ class Changes(Lines):
         if self.step.kind != "turn" and condition and "old(" not in condition:
             said.append(condition)
         for it in said:
-            yield Change(f"`invariant {it}` of the loop in line {line}", (self.invariant(step, it),))
+            yield Change(f"`invariant {it}` added to the loop in line {line}", (self.invariant(step, it),))
 
 
 def help_of(examiner, source, again, label):

@@ -64,7 +64,7 @@ class Lacking:
             place = it.parts[0] if it.kind == "acc" and it.parts[0].kind == "field" else None
             value = values.get(self.source.said(place.parts[0].at)) if place is not None else None
             if isinstance(value, Ref) and value == 0 and len(it.parts) == 1:
-                return [f"no state holds {self.instance()}: its body would have acc(null.{self.source.said(place.at)})"]
+                return [f"{self.instance()} can never be folded: its body needs acc(null.{self.source.said(place.at)}), and null has no fields"]
         return [f"the body of {self.instance()} is held, and not folded"] if self.body_taken() else []
 
     def can_fold(self):
@@ -90,9 +90,9 @@ class Lacking:
     def behind(self):
         """Where the same clause gives only later what it reads, or that nothing gives it."""
         step, text = self.steps[-1], self.text(self.fault.node)
-        lines = [f"acc({text}) comes only behind it, at {self.place(it.parts[0].start)}" for it in self.later()[:1]]
+        lines = [f"acc({text}) comes only after it, at {self.place(it.start)}" for it in self.later()[:1]]
         if not lines and step.kind in ("requires", "body"):
-            lines.append(f"nothing in front of it gives acc({text})")
+            lines.append(f"nothing before it gives acc({text})")
         is_old = self.fault.state is self.fault.scene.old
         alone = ["a postcondition is checked by itself: what the precondition gives does not count"]
         return lines + alone * (step.kind == "ensures" and not is_old)
@@ -153,7 +153,7 @@ class Lacking:
         for _, much, node, scene, whole in takes[:MOST_TAKERS]:
             said = self.source.spelled(whole.first, whole.last)
             what = needed if much == total else f"{amount(much)} of the {amount(total)} of {needed} that was held"
-            found.append(f"{self.one_object(node, scene, is_place)}{said} at {self.place(node.start)} already took {what}")
+            found.append(f"{self.one_object(node, scene, is_place)}{said} at {self.place(whole.first)} already took {what}")
         return found
 
     def one_object(self, node, scene, is_place):
@@ -199,9 +199,9 @@ class Lacking:
         name = self.text(self.fault.node) if is_place else self.instance()
         if step.kind == "while":
             if step.fault is not None:
-                what = "its condition, too, has only what the invariants say"
+                what = "its condition, too, is read with only what the invariants give"
             else:
-                what = "an iteration has only what the invariants say" if step.way == "turn" else "its invariants do not give it back"
+                what = "an iteration has only what the invariants give" if step.way == "turn" else "its invariants do not give it back"
             return f"{name} was held {f'in full ' if left else ''}until the loop at {self.place(step.first)}: {what}"
         words, wildcard = self.origins.words(step), self.of_wildcard(step)
         if wildcard:
@@ -209,14 +209,14 @@ class Lacking:
             return f"{words} at {self.place(step.first)} took some of it (wildcard), here {amount(-much)}{back}"
         if left:
             return f"{words} at {self.place(step.first)} took {amount(-much)}"
-        return f"{name} was held until {self.place(step.first)}, where {words} took it"
+        return f"{name} was held until {self.place(step.first)}, where {words} {'opened' if step.kind == 'unfold' else 'took'} it"
 
     def of_guard(self):
         """That the condition of a loop has only what its invariants say, where it reads what was never held."""
         step = self.steps[-1]
         if step.kind != "while" or not self.source.said(self.fault.part) or not step.first < self.fault.part <= step.last:
             return []
-        return [f"the condition of the loop at {self.place(step.first)}, too, has only what the invariants say"]
+        return [f"the condition of the loop at {self.place(step.first)}, too, is read with only what the invariants give"]
 
     def of_wildcard(self, step):
         return any([it[0] == self.fault.thing and self.meaning.is_wildcard(it[4]) for it in step.takes])

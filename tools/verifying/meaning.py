@@ -49,6 +49,7 @@ class Meaning:
         self.source, self.choices, self.bodies = source, choices, {}
         self.types = {it.name: it.variables[0].type for it in source.units if it.kind == "field" and it.variables}
         self.takes = []     # what the present step took away: of each thing how much, by which term in which scene, and in which `acc`
+        self.gives = []     # what it gave, in the same form
 
     def sign(self, node):
         return self.source.said(node.at) if node.kind in ("binary", "choice", "unary") else ""
@@ -108,14 +109,22 @@ class Meaning:
 
     def value_of_unfolding(self, node, state, scene):
         opened = state.copy()
-        self.open(node.parts[0], opened, scene)
+        self.look_into(node, opened, scene)
         return self.value(node.parts[1], opened, scene)
+
+    def look_into(self, node, state, scene):
+        """Opens what an `unfolding` names, which gives nothing to the step."""
+        given, self.gives = self.gives, []
+        try:
+            self.open(node.parts[0], state, scene)
+        finally:
+            self.gives = given
 
     def opened(self, node, state, scene):
         """The state in which an `unfolding` reads its term, or None where it ends before."""
         opened = state.copy()
         try:
-            self.open(node.parts[0], opened, scene)
+            self.look_into(node, opened, scene)
         except (Fails, Blocks):
             return None
         return opened
@@ -266,6 +275,7 @@ class Meaning:
             much = self.amount(node, state, scene)
             if much < 0:
                 raise Fails(scene, inner.at, "negative", node, state, None, thing, much)
+        self.gives.append((thing, much, inner, scene, node))
         self.add(thing, much, state, is_place)
 
     def add(self, thing, much, state, is_place):
@@ -321,6 +331,7 @@ class Meaning:
             state.fill(thing, content)
         elif state.inside(thing) != content:
             raise Blocks
+        self.gives.append((thing, much * scale, inner, scene, node))
         self.add(thing, much * scale, state, is_place)
 
     def fill_place(self, place, content, state):

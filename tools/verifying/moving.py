@@ -93,7 +93,7 @@ class Moves(Lines):
         if block is None or block == self.source.block[self.step.first] or self.source.closing.get(block, self.step.first) >= self.step.first:
             return
         last = self.source.closing[block] - 1
-        place = f"`fold {text}` behind line {self.source.tokens[last].line}"
+        place = f"`fold {text}` added after line {self.source.tokens[last].line}"
         yield place, (self.behind(last, f"fold {text}", self.source.tokens[opened[-1].first].column),)
 
     def part_to_front(self, node):

@@ -72,7 +72,7 @@ class Origins:
         if old == new and not allows:
             self.say(f"{who} can change {text}: its {whose} {nothing}")
         elif old != new:
-            self.say(f"{text} was {old} before {who}, whose {whose} {f'{allows} {new} behind it' if allows else nothing}")
+            self.say(f"{text} was {old} before {who}, whose {whose} {f'{allows} {new} after it' if allows else nothing}")
 
     def of_result(self, step, name):
         """What is said of the result of a call."""

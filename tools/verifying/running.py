@@ -20,15 +20,16 @@ class Moment:
 class Step:
     """A step that ran: `kind` is begin, requires, ensures, loop, end, or that of a statement; `first` and `last` are its tokens, `at` is the
     token at which a reader stands; `before` and `after` are moments, and `way` is what a branch or a loop did; `targets` are the variables that got a
-    value, even if it is the same, and `terms` what was computed for them; `takes` is what it took away, and `between` the state in which
-    it forgot what was not held, or None. `fault` is what failed, and `reached` the moment at which it did."""
+    value, even if it is the same, and `terms` what was computed for them; `takes` and `gives` are what it took away and gave, and `between`
+    the state in which it forgot what was not held, or None. `fault` is what failed, and `reached` the moment at which it did."""
 
-    __slots__ = ("kind", "first", "last", "before", "after", "way", "fault", "callee", "targets", "terms", "takes", "between", "reached")
+    __slots__ = ("kind", "first", "last", "before", "after", "way", "fault", "callee", "targets", "terms", "takes", "gives", "between",
+                 "reached")
 
     def __init__(self, kind, first, last, before, way="", callee=None):
         self.kind, self.first, self.last, self.before, self.after = kind, first, last, before, before
         self.way, self.fault, self.callee = way, None, callee
-        self.targets, self.terms, self.takes, self.between, self.reached = [], [], [], None, before
+        self.targets, self.terms, self.takes, self.gives, self.between, self.reached = [], [], [], [], None, before
 
     def havocs(self, place):
         """Whether it gave up all of a place, and has it again: then it may have any value."""
@@ -124,6 +125,7 @@ class Running:
             self.how = "short"
         except Blocks:
             self.how = "blocked"
+        self.meaning.gives = []     # what is looked at later belongs to no step
         return self.how
 
     def label(self):
@@ -135,7 +137,7 @@ class Running:
 
     def step(self, kind, first, last, way="", callee=None):
         self.steps.append(Step(kind, first, last, self.moment(), way, callee))
-        self.meaning.takes = self.steps[-1].takes
+        self.meaning.takes, self.meaning.gives = self.steps[-1].takes, self.steps[-1].gives
         return self.steps[-1]
 
     def visible(self, step):
@@ -397,7 +399,7 @@ class Running:
         step.targets = [v.name for v in self.assigned(it.at, brace)]
         for v in self.assigned(it.at, brace):
             self.set(v.name, self.choices.took(v.type, f"any value for {v.name}, which the loop at {line} assigns"))
-        turn = self.choices.pick(f"one iteration of the loop at {line}", f"behind the loop at {line}")
+        turn = self.choices.pick(f"one iteration of the loop at {line}", f"after the loop at {line}")
         step.way = "turn" if turn else "behind"
         if turn:
             self.fresh_state(f"any state, in which an iteration of the loop at {line} begins")

@@ -48,7 +48,7 @@ class Spots:
                 n = self.inner(n, before)
                 continue
             if it.callee is not None and not self.is_never_back(it.callee):
-                words = f"no run comes behind this call of `{self.source.said(it.callee)}`: what it ensures cannot hold here"
+                words = f"no run goes on after this call of `{self.source.said(it.callee)}`: what it ensures cannot hold here"
                 before = self.add(self.source.tokens[it.end - 1].end, n, words, before)
             n = max(n + 1, it.end)
         return before

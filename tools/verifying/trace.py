@@ -5,13 +5,15 @@ from copy import copy
 from typing import NamedTuple
 
 from .contents import content_words
-from .meaning import Scene
+from .failures import instance_of
+from .meaning import Blocks, Fails, Scene
 from .origins import Origins
 from .references import Names, aliases
 from .stand_ins import Spelling
-from .terms import Term
+from .terms import Term, nodes_of
 from .values import amount, word
 from .withheld import Withheld
+from .wording import Atoms
 
 WIDTH = 52          # the most columns of a source in a trace for people, beside which its text stands
 LONGEST = 16        # so many rows are shown, where not all are
@@ -19,7 +21,9 @@ FIRST, LAST = 6, 8  # those at the begin and at the end that are shown then
 MOST_SOURCE = 200   # the most characters of a source as data
 GIVES = ("call", "requires", "ensures", "inhale", "while", "assign", "var", "body")    # steps that give what is held behind them
 PARTLY = ("requires", "ensures", "body", "inhale", "while")     # and those of which it is told what they gave before they failed
-WAYS = {"turn": "any iteration", "behind": "behind the loop"}
+WAYS = {"turn": "some iteration", "behind": "after the loop"}
+BY_INVARIANTS = "with only what the invariants give"     # how the condition of a loop is read, and the invariants themselves
+OPEN = {"while": "left open by the invariants", "inhale": "left open by the inhale", "new": "not initialised", "var": "not initialised"}
 
 
 class Row(NamedTuple):
@@ -86,6 +90,7 @@ class Trace:
         self.order = {name: n for n, name in enumerate(self.meaning.types)}
         last = running.steps[-1]
         self.is_alone = last.kind == "ensures" and last.fault is not None and last.fault.kind == "perm" and last.fault.state is not running.old
+        self.read = what_is_read(self.meaning, running.fault) if running.fault is not None else set()
 
     def rows(self, is_data):
         """The rows of all steps but those that are a specification that says nothing of what is held. For people they have no data."""
@@ -98,7 +103,7 @@ class Trace:
             return ""
         done = copy(step)
         done.after, done.fault = step.reached, None
-        return Telling(self.running, names, done).text(changes_of(done, self.order))
+        return Telling(self.running, names, done, self.read).text(changes_of(done, self.order))
 
     def row(self, step, is_data):
         """The row of a step."""
@@ -106,7 +111,7 @@ class Trace:
         first, last = source.tokens[step.first], source.tokens[step.last]
         changes = changes_of(step, self.order)
         names = Names(self.running.visible(step), [source.said(n) for n in range(step.first, step.last + 1)])
-        text = self.failing(step, names) if step.fault else Telling(self.running, names, step).text(changes)
+        text = self.failing(step, names) if step.fault else Telling(self.running, names, step, self.read).text(changes)
         text = "its permission does not count here" if text and step.kind == "requires" and self.is_alone else text
         data = ([self.change_data(it) for it in changes], self.state_data(step)) if is_data else ([], {})
         spelled = source.spelled(step.first, step.last, MOST_SOURCE)
@@ -163,12 +168,26 @@ def instance_data(instance):
     return {"predicate": instance[0], "arguments": [word(it) for it in instance[1]]}
 
 
-class Telling:
-    """Tells what a step changed, in words."""
+def what_is_read(meaning, fault):
+    """The places that what fails reads, and the instances that it opens."""
+    nodes = {"false": [fault.node], "null": fault.node.parts[:1], "perm": fault.node.parts}.get(fault.kind, fault.node.parts[1:2])
+    found = {meaning.place(it.node, it.state, it.scene) for node in nodes for it in Atoms(meaning).of(node, fault.state, fault.scene)
+             if it.node.kind == "field" and not it.is_old}
+    for it in [it for node in nodes for it, _ in nodes_of(node) if it.kind == "unfolding"]:
+        try:
+            found.add(meaning.instance(instance_of(it.parts[0]), fault.state, fault.scene))
+        except (Fails, Blocks):
+            pass
+    return found
 
-    def __init__(self, running, names, step):
-        self.old, self.meaning, self.names, self.step = running.old, running.meaning, names, step
-        self.origins = Origins(running)
+
+class Telling:
+    """Tells what a step changed, in words. `read` are the places and instances that are read where the run fails: of a loop that may
+    have changed them it is told what they have behind it, even where that is the same as before."""
+
+    def __init__(self, running, names, step, read):
+        self.old, self.meaning, self.names, self.step, self.read = running.old, running.meaning, names, step, read
+        self.origins, self.spelling, self.failing = Origins(running), Spelling(running.source), running.steps[-1]
 
     def text(self, changes):
         """All that changed, or that nothing had to."""
@@ -182,12 +201,19 @@ class Telling:
         parts += [self.more(it) for it in others if it.held != it.now and not it.gained() and not (it.lost() and (it.held == 1 or quiet))]
         gives = self.step.kind in GIVES or any([it.startswith("takes ") for it in parts])
         parts += [("gives " if gives else "") + "; ".join(gained) if gained else ""]
-        return "; ".join([it for it in parts if it]) or self.nothing()
+        told = "; ".join([it for it in parts if it])
+        return f"{self.way()}: {told}" if self.way() and told else self.way() or told or self.nothing()
+
+    def way(self):
+        """What a branch or a loop did. A loop whose condition or invariants fail as they are read has not come to an iteration."""
+        is_cut = self.step.way == "turn" and self.step.first == self.failing.first and self.failing.fault is not None
+        return BY_INVARIANTS if is_cut else WAYS.get(self.step.way, self.step.way)
 
     def lost(self, changes):
         """What is no longer held: it was taken, or stays outside of an iteration."""
         outside, taken = ([self.names.thing(it.kind, it.thing) for it in changes if self.stays_outside(it) == way] for way in (True, False))
-        return [f"takes {', '.join(taken)}" if taken else "", f"{', '.join(outside)} stay{'s' * (len(outside) == 1)} outside" if outside else ""]
+        stay = f"{', '.join(outside)} stay{'s' * (len(outside) == 1)} outside the loop" if outside else ""
+        return [f"takes {', '.join(taken)}" if taken else "", stay]
 
     def stays_outside(self, change):
         """Whether an iteration has of a thing what the invariants took, so that the rest stays outside."""
@@ -217,20 +243,22 @@ class Telling:
         return self.names.thing("place" if isinstance(thing[1], int) else "instance", thing)
 
     def variables(self, changes):
-        """What a branch or a loop did, and the variables that got a value."""
+        """The variables that got a value."""
         hidden = self.returns() if self.step.kind == "begin" else ()
         now = self.step.after.vars
         named = {it.thing: it.new for it in changes if it.kind == "variable" and it.thing not in hidden}
         named.update({name: now[name] for name in self.step.targets if name in now})
         any_ = {name: self.any_value(name) for name in named if self.origins.is_any(self.step, name)}
-        told = ", ".join(aliases(named.items(), any_))
-        way = WAYS.get(self.step.way, self.step.way)
-        return f"{way}: {told}" if way and told else way or told
+        return ", ".join(aliases(named.items(), any_))
 
     def any_value(self, name):
-        """That a variable has any value, and the one that it had before."""
+        """That the step leaves the value of a variable open, and the one that it had before."""
         old, new = (it.vars.get(name) for it in (self.step.before, self.step.after))
-        return f"any value, was {self.names.value(old)}" if self.step.kind == "while" and old != new else "any value"
+        return f"{self.left_open()}, was {self.names.value(old)}" if self.step.kind == "while" and old != new else self.left_open()
+
+    def left_open(self):
+        """Who says nothing of a value or a content."""
+        return "left open by the contract" if self.step.callee is not None else OPEN.get(self.step.kind, "left open")
 
     def written(self):
         """The place that an assignment wrote."""
@@ -248,18 +276,31 @@ class Telling:
         name = self.names.thing(it.kind, it.thing)
         is_any = self.origins.gives_any(self.step, it.kind, it.thing)
         if it.kind == "place":
-            return f"{name} = {self.names.value(it.new)}{' (any value)' if is_any else ''}, {amount(it.now)}"
+            return f"{name} = {self.names.value(it.new)}{self.braced(is_any)}, {amount(it.now)}{self.shares(it)}"
         inside = content_words(self.meaning, it.thing, it.new, self.names)
-        much = "" if it.now == 1 else f", {amount(it.now)}"
-        return f"{name}{f' {inside}' if inside else ''}{' (any content)' if inside and is_any else ''}{much}"
+        shares = self.shares(it)
+        much = "" if it.now == 1 and not shares else f", {amount(it.now)}{shares}"
+        return f"{name}{f' {inside}' if inside else ''}{self.braced(inside and is_any)}{much}"
+
+    def braced(self, is_open):
+        return f" ({self.left_open()})" if is_open else ""
+
+    def shares(self, change):
+        """Of what several parts of a step give together: how much each gives, and that they name the same."""
+        found = [(much, self.spelling.of(node, scene)) for thing, much, node, scene, _ in self.step.gives if thing == change.thing and much]
+        if len(found) < 2:
+            return ""
+        told = " and ".join([f"{amount(much)} of {text}" for much, text in found])
+        same = f", which are one {change.kind}" if len({text for _, text in found}) > 1 else ""
+        return f": {told}{same}"
 
     def any(self, it):
         """A place or an instance that has another value, or any that a contract or an invariant leaves open; or nothing."""
         name, is_open = self.names.thing(it.kind, it.thing), it.havoc and not self.origins.says(self.step, it.kind, it.thing)
-        if it.old == it.new and not is_open:
+        if it.old == it.new and not is_open and not (self.step.kind == "while" and it.thing in self.read):
             return ""
         now, was = (self.inside(it, value) for value in (it.new, it.old))
-        said = [f"any {'value' if it.kind == 'place' else 'content'}"] * is_open + [f"was {was}"] * (it.old != it.new and it.havoc and bool(was))
+        said = [self.left_open()] * is_open + [f"was {was}"] * (it.old != it.new and it.havoc and bool(was))
         return f"{name}{' = ' if it.kind == 'place' else ' ' * bool(now)}{now}" + (f" ({', '.join(said)})" if said else "")
 
     def inside(self, it, value):
@@ -270,7 +311,7 @@ class Telling:
         """A place or an instance of which more is held, or less."""
         change, name = it.now - it.held, self.names.thing(it.kind, it.thing)
         if change < 0 and self.stays_outside(it):
-            return f"{amount(-change)} of {name} stays outside"
+            return f"{amount(-change)} of {name} stays outside the loop"
         if change < 0:
             return f"takes {amount(-change)} of {name}, {amount(it.now)} is left"
         return f"gives {amount(change)} of {name}, {amount(it.now)} is held"

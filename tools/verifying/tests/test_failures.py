@@ -35,7 +35,7 @@ method m(x: Ref, k: Int) returns (v: Int)\r
     ((w > 0))\r
 }""")
 READ = "`x.f` is read, and might not be held"
-OF_LOOP = "of this loop"
+OF_LOOP = "the loop begins here"
 OF_LIST, IN_LIST = "this part of the body of predicate `list`", "in the body of predicate `list`"
 CROWDED_CASES = (
     ("3:34 3:73 null", Told(3, 73, "the body of predicate `cell` might not be well-defined by itself: `x.f` is read, and `x` might be null")),
@@ -84,7 +84,7 @@ LIST_CASES = (
                            [(6, 48, "this part of the postcondition, where `k` of `m` is `0` in this call")])),
     ("13:3 3:58 null", Told(13, 3, "this call opens `list`, whose body might not be well-defined: `x.next` is read, and `x` might be null",
                             [(3, 58, IN_LIST)])),
-    ("14:3 15:7 false", Told(15, 7, "this assert might fail: `w > 0` might be false", [(14, 3, "of this assert")])),
+    ("14:3 15:7 false", Told(15, 7, "this assert might fail: `w > 0` might be false", [(14, 3, "the assert begins here")])),
     ("7:1 3:58 null", Told(6, 23, "a postcondition of `m`, at the end of the body, opens `list`, whose body might not be well-defined: "
                                   "`x.next` is read, and `x` might be null", [(3, 58, IN_LIST)])),
     ("7:1 6:37 perm", Told(6, 37, "a postcondition of `m` might not be well-defined at the end of the body: "

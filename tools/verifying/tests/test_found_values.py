@@ -162,7 +162,7 @@ class WithoutZ3(unittest.TestCase):
     def test_a_run_is_shown_in_which_each_instance_can_be_opened(self):
         out = self.verify("examples/list_wrong.vpr")
         self.assertIn("`i >= 0` is -1 >= 0", out)
-        self.assertIn("with `invariant i >= 0` of the loop in line 50, `fill` is verified", out)
+        self.assertIn("with `invariant i >= 0` added to the loop in line 50, `fill` is verified", out)
         self.assertNotIn("although its body rules it out", out)
 
 

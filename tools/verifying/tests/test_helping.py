@@ -103,14 +103,14 @@ class Offered(unittest.TestCase):
 
     def test_to_fold_at_the_end_of_a_block(self):
         method = "method m(x: Ref) requires cell(x) {\n if (true) {\n  unfold cell(x)\n  x.f := 1\n }\n take(x)\n}"
-        self.assertIn("`fold cell(x)` behind line 10", self.words(method, ["var x #1", "content cell #1 leaf 3"], "pick true"))
+        self.assertIn("`fold cell(x)` added after line 10", self.words(method, ["var x #1", "content cell #1 leaf 3"], "pick true"))
         self.assertIn(method.replace("1\n }", "1\n  fold cell(x)\n }"), self.texts(method, ["var x #1", "content cell #1 leaf 3"], "pick true"))
 
     def test_to_move_a_part_of_a_clause(self):
         method = "method m(x: Ref)\n requires true && x.f > 0 && acc(x.f) && true\n{ }"
         self.assertEqual(self.words(method, ["var x #1"])[0], "`acc(x.f)` moved to the front of this `requires`")
         self.assertEqual(self.texts(method, ["var x #1"])[0], "method m(x: Ref)\n requires acc(x.f) && true && x.f > 0 && true\n{ }")
-        self.assertEqual(self.words("method m(x: Ref) requires x.f > 0 && (true ==> acc(x.f)) { }", ["var x #1"]), ["`acc(x.f) &&` behind this `requires`"])
+        self.assertEqual(self.words("method m(x: Ref) requires x.f > 0 && (true ==> acc(x.f)) { }", ["var x #1"]), ["`acc(x.f) &&` added right after this `requires`"])
 
     def test_to_make_another_field(self):
         for made, choices, new in (("f", ["value 0"], "new(f, g)"), ("", [], "new(g)")):
@@ -124,12 +124,12 @@ class Offered(unittest.TestCase):
                          ["method m(x: Ref) requires acc(x.f) {\n while (true)\n  invariant true\n   invariant acc(x.f)\n { x.f := 1 }\n}"])
 
     def test_to_ask_the_caller(self):
-        self.assertEqual(self.words("method m(x: Ref) {\n x.f := 1\n}", ["var x #1"], "pick true"), ["`requires acc(x.f)` of `m`"])
-        self.assertEqual(self.words("method m(n: Int) {\n var i: Int := 1 \\ n\n}", [], "pick true"), ["`requires n != 0` of `m`"])
+        self.assertEqual(self.words("method m(x: Ref) {\n x.f := 1\n}", ["var x #1"], "pick true"), ["`requires acc(x.f)` added to `m`"])
+        self.assertEqual(self.words("method m(n: Int) {\n var i: Int := 1 \\ n\n}", [], "pick true"), ["`requires n != 0` added to `m`"])
         self.assertEqual(self.words("method m(a: Int, b: Int) {\n var w: Int := b - a\n var i: Int := 1 \\ w\n}", [], "pick true"),
-                         ["`requires b != a` of `m`"])
+                         ["`requires b != a` added to `m`"])
         self.assertEqual(self.words("method m(a: Int) {\n var w: Int\n w := a + 1\n w := 1 % (w * 2)\n}", ["var a -1"], "pick true", "value 0"),
-                         ["`requires (a + 1) * 2 != 0` of `m`"])
+                         ["`requires (a + 1) * 2 != 0` added to `m`"])
         self.assertEqual(self.words("method m(a: Int) {\n var w: Int\n w := w + a\n w := 1 % w\n}", [], "pick true", "value 0"), [])
         self.assertEqual(self.words("method m(a: Int) {\n assert a > 0\n}", [], "pick true"), [])
         self.assertEqual(self.words("method m(x: Ref, b: Bool) requires b ==> acc(x.f) {\n x.f := 1\n}", ["var x #1"], "pick true"), [])
@@ -137,17 +137,17 @@ class Offered(unittest.TestCase):
     def test_what_the_guard_says_at_the_end(self):
         method = "method m(n: Int) {\n var i: Int := 0\n while (i < n)\n { i := i + 1 }\n assert i == n\n}"
         self.assertEqual(self.words(method, [], "pick true", "state", "value 1", "pick false"),
-                         ["`invariant i <= n` of the loop in line 9", "`invariant i == n` of the loop in line 9"])
+                         ["`invariant i <= n` added to the loop in line 9", "`invariant i == n` added to the loop in line 9"])
 
     def test_what_the_callee_should_say(self):
         method = "method id(x: Ref) requires acc(x.f) ensures acc(x.f)\nmethod m(y: Ref) requires acc(y.f) {\n y.f := 1\n id(y)\n assert y.f == 1\n}"
-        self.assertEqual(self.words(method, ["var y #1"], "pick true", "state"), ["`ensures x.f == old(x.f)` of `id` behind line 7"])
+        self.assertEqual(self.words(method, ["var y #1"], "pick true", "state"), ["`ensures x.f == old(x.f)` added to `id` after line 7"])
 
 
     def test_what_the_callee_should_say_of_a_content(self):
         method = "method id(x: Ref) requires cell(x) ensures cell(x)\nmethod m(y: Ref) requires cell(y) {\n id(y)\n unfold cell(y)\n assert y.f == 3\n}"
         self.assertEqual(self.words(method, ["var y #1", "content cell #1 leaf 3"], "pick true", "state\ncontent cell #1 leaf 4"),
-                         ["`ensures (unfolding cell(x) in x.f) == old(unfolding cell(x) in x.f)` of `id` behind line 7"])
+                         ["`ensures (unfolding cell(x) in x.f) == old(unfolding cell(x) in x.f)` added to `id` after line 7"])
 
 
 class Believable(unittest.TestCase):
@@ -224,7 +224,7 @@ class Tried(unittest.TestCase):
     def test_the_change_that_is_told_verifies_the_unit(self):
         text = HEAD + "method m(x: Ref)\n  requires cell(x)\n  ensures cell(x)\n{\n  x.f := 1\n}\n"
         found = [it for it in self.told(text) if it["help"]]
-        self.assertEqual(found[0]["help"][0]["words"], "with `unfold cell(x)` in front of line 11 and `fold cell(x)` behind it, `m` is verified")
+        self.assertEqual(found[0]["help"][0]["words"], "with `unfold cell(x)` added before line 11 and `fold cell(x)` after it, `m` is verified")
         lines = text.split("\n")
         for it in reversed(found[0]["help"][0]["edits"]):
             line = lines[it["line"] - 1]

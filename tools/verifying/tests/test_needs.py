@@ -47,12 +47,12 @@ class Permission(unittest.TestCase):
                          ["needs x.f, write; held: 1/2, so 1/2 is missing", "drop(x) at 11:2 took 1/2"])
         loop = method.format("while (true) invariant true {{ x.f := 1 }}".replace("{{", "{").replace("}}", "}"))
         self.assertEqual(self.lines(loop, ["var x #1"], "pick true", "state", "pick true", "state"),
-                         ["needs x.f, write; held: none", "x.f was held until the loop at 11:2: an iteration has only what the invariants say"])
+                         ["needs x.f, write; held: none", "x.f was held until the loop at 11:2: an iteration has only what the invariants give"])
 
     def test_an_earlier_part_of_the_same_step(self):
         self.assertEqual(self.lines("method m(x: Ref, y: Ref) requires acc(x.f) { pair(x, y) }", ["var x #1", "var y #1"], "pick true"),
                          ["needs y.f, write; held: none",
-                          "x.f and y.f are one place: acc(a.f) at 8:42 already took y.f"])
+                          "x.f and y.f are one place: acc(a.f) at 8:38 already took y.f"])
 
     def test_an_instance_that_has_it_inside(self):
         self.assertEqual(self.lines("method m(x: Ref) requires cell(x) { x.f := 1 }",
@@ -86,9 +86,9 @@ class Permission(unittest.TestCase):
 
     def test_what_is_named_twice_is_told_as_one(self):
         self.assertEqual(self.lines("method m(x: Ref) requires acc(x.f) { pair(x, x) }", ["var x #1"], "pick true")[1:],
-                         ["`a` and `b` are both x: acc(a.f) at 8:42 already took x.f"])
+                         ["`a` and `b` are both x: acc(a.f) at 8:38 already took x.f"])
         self.assertEqual(self.lines("method m(x: Ref) requires acc(x.f, 1/2) { exhale acc(x.f, 1/4) && acc(x.f, 1/2) }", ["var x #1"], "pick true")[1:],
-                         ["acc(x.f, 1/4) at 10:54 already took 1/4 of the 1/2 of x.f that was held"])
+                         ["acc(x.f, 1/4) at 10:50 already took 1/4 of the 1/2 of x.f that was held"])
 
     def test_what_was_taken_and_given_back(self):
         self.assertEqual(self.lines("method m(x: Ref) requires acc(x.f) {\n drop(x) drop(x) inhale acc(x.f, 1/4) x.f := 1 }",
@@ -107,12 +107,12 @@ class Permission(unittest.TestCase):
     def test_the_condition_of_a_loop(self):
         method = "method m(x: Ref) requires acc(x.f{}) {{\n while (x.f > 0) {{ }} }}"
         self.assertEqual(self.lines(method.format(""), ["var x #1"], "pick true", "state", "pick true", "state")[1:],
-                         ["x.f was held until the loop at 11:2: its condition, too, has only what the invariants say"])
+                         ["x.f was held until the loop at 11:2: its condition, too, is read with only what the invariants give"])
         self.assertEqual(self.lines(method.format(", none"), ["var x #1"], "pick true", "state", "pick true", "state")[1:],
-                         ["the condition of the loop at 11:2, too, has only what the invariants say"])
+                         ["the condition of the loop at 11:2, too, is read with only what the invariants give"])
 
     def test_a_specification_by_itself(self):
-        self.assertEqual(self.lines("method m(x: Ref) requires x.f > 0 { }", ["var x #1"])[1:], ["nothing in front of it gives acc(x.f)"])
+        self.assertEqual(self.lines("method m(x: Ref) requires x.f > 0 { }", ["var x #1"])[1:], ["nothing before it gives acc(x.f)"])
         self.assertEqual(self.lines("method m(x: Ref) requires acc(x.f) ensures x.f > 0 { }", ["var x #1"], "pick false", "state")[1:],
                          ["a postcondition is checked by itself: what the precondition gives does not count"])
 
@@ -124,7 +124,7 @@ class Permission(unittest.TestCase):
         self.assertEqual(self.lines("method m(x: Ref) requires acc(x.f) { exhale cell(x) }", ["var x #1"], "pick true")[1:],
                          ["the body of cell(x) is held, and not folded"])
         self.assertEqual(self.lines("method m(x: Ref) { exhale cell(x) }", ["var x null"], "pick true")[1:],
-                         ["no state holds cell(null): its body would have acc(null.f)"])
+                         ["cell(null) can never be folded: its body needs acc(null.f), and null has no fields"])
 
     def test_instances_that_come_close_have_the_terms_that_an_unfold_gave(self):
         content = "content tree #1 4 pair leaf 0 pair leaf #2 pair leaf 0 pair leaf null unit"
@@ -141,7 +141,7 @@ class Permission(unittest.TestCase):
 
     def test_a_clause_that_gives_it_too_late(self):
         self.assertEqual(self.lines("method m(x: Ref) requires x.f > 0 && acc(x.f)", ["var x #1"])[1:],
-                         ["acc(x.f) comes only behind it, at 10:42"])
+                         ["acc(x.f) comes only after it, at 10:38"])
 
     def test_an_instance_that_nothing_opens(self):
         again, _ = needs("method m(x: Ref, n: Int) requires tree(x, n) { x.f := 1 }", ["var x null", "var n 1"], "pick true")
@@ -197,7 +197,7 @@ class Origins(unittest.TestCase):
 
     def test_a_call_that_says_nothing_of_a_place(self):
         method = "method m(x: Ref) requires acc(x.f) {{\n x.f := 3 {}(x) assert x.f == 3 }}"
-        for name, says in (("touch", "says nothing of its value"), ("keep", "allows 4 behind it")):
+        for name, says in (("touch", "says nothing of its value"), ("keep", "allows 4 after it")):
             self.assertEqual(self.lines(method.format(name), ["var x #1"], "pick true", "state\nheap f #1 4"),
                              [f"x.f was 3 before {name}(x) at 11:11, whose contract {says}"])
 
@@ -208,7 +208,7 @@ class Origins(unittest.TestCase):
 
     def test_a_loop(self):
         method = "method m(n: Int) {{\n var i: Int := 0 while (i < n) invariant {} {{ i := i + 1 }} assert i == n }}"
-        for invariant, says in (("true", "say nothing of its value"), ("0 <= i", "allow 2 behind it")):
+        for invariant, says in (("true", "say nothing of its value"), ("0 <= i", "allow 2 after it")):
             self.assertEqual(self.lines(method.format(invariant), [], "pick true", "state", "value 2", "pick false"),
                              [f"i was 0 before the loop at 11:18, whose invariants {says}"])
 

@@ -85,9 +85,9 @@ class Spots(unittest.TestCase):
         called = "method c() ensures true "
         self.assertEqual([it[1:] for it in self.found(called + "method m(b: Bool) { c() if (b) { c() } else { } while (b) { } }")], [
             (32, "no run of `m` begins: what it requires cannot hold", None),
-            (45, "no run comes behind this call of `c`: what it ensures cannot hold here", 0),
+            (45, "no run goes on after this call of `c`: what it ensures cannot hold here", 0),
             (49, "no run comes into this branch", 1),
-            (58, "no run comes behind this call of `c`: what it ensures cannot hold here", 2),
+            (58, "no run goes on after this call of `c`: what it ensures cannot hold here", 2),
             (64, "no run comes into this branch", 1),
             (73, "no run comes into the body of this loop", 1),
             (32, "no run of `m` comes to its end", 1)])

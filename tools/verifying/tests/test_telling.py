@@ -31,7 +31,7 @@ what is not held gets any value (call of push at 16:3)
 what the call of push at 16:3 gives l
 what is not held gets any value (loop at 17:3)
 any value for k, which the loop at 17 assigns
-behind the loop at 17""".split("\n")
+after the loop at 17""".split("\n")
 
 
 def choices_of(text):
@@ -72,11 +72,11 @@ class Shown(unittest.TestCase):
         self.assertEqual([it.text for it in self.again.rows()], [
             "first = #1, n = 2",
             "gives list(first) {value 4, next null}",
-            "a = 5 (any value)",
-            "made = #2; made.value = 6 (any value), write",
-            "l = null (any value)",
-            "l = #3; takes 1/2 of list(first), 1/2 is left; gives list(l) {value 3, next #4, list(#4) {value -1, next null}} (any content)",
-            "behind the loop: k = 2 (any value, was 0)",
+            "a = 5 (not initialised)",
+            "made = #2; made.value = 6 (not initialised), write",
+            "l = null (not initialised)",
+            "l = #3; takes 1/2 of list(first), 1/2 is left; gives list(l) {value 3, next #4, list(#4) {value -1, next null}} (left open by the contract)",
+            "after the loop: k = 2 (left open by the invariants, was 0)",
             "true",
             "inner = 2",
             "takes 1/2 of list(l), 1/2 is left; gives l.value = 3, 1/2; l.next = #4, 1/2; list(#4) {value -1, next null}, 1/2",
@@ -92,7 +92,7 @@ class Shown(unittest.TestCase):
         state = row.pop("state")
         self.assertEqual(row, {
             "line": 14, "column": 3, "end_line": 14, "end_column": 30, "source": "var made: Ref := new(value)",
-            "text": "made = #2; made.value = 6 (any value), write",
+            "text": "made = #2; made.value = 6 (not initialised), write",
             "changes": [{"variable": "made", "value": "#2"}, {"place": "#2.value", "held": "1", "held_before": "0", "value": "6"}]})
         self.assertEqual(state, {
             "variables": {"first": "#1", "n": "2", "k": "0", "a": "5", "made": "#2"},
@@ -149,26 +149,52 @@ method get() returns (x: Ref, n: Int) ensures acc(x.f) && acc(cell(x), 1/2)
         method = "method m() {\n var x: Ref\n var n: Int\n x, n := get()\n exhale acc(x.f)\n inhale acc(x.f)\n x := new(g)\n assert false }"
         self.assertEqual(self.rows(method, [], "pick true", "value null", "value 1", "state\ncontent cell #1 leaf 3", "value #1", "value 2",
                                    "state\nheap f #1 5", "fresh #2", "value null")[1:],
-                         ["x = null (any value)", "n = 1 (any value)",
-                          "x = #1, n = 2 (any value); gives x.f = 0 (any value), write; cell(x) {f 3} (any content), 1/2",
-                          "takes x.f", "gives x.f = 5 (any value), write", "x = #2; x.g = null (any value), write", "fails"])
+                         ["x = null (not initialised)", "n = 1 (not initialised)",
+                          "x = #1, n = 2 (left open by the contract); gives x.f = 0 (left open by the contract), write; "
+                          "cell(x) {f 3} (left open by the contract), 1/2",
+                          "takes x.f", "gives x.f = 5 (left open by the inhale), write", "x = #2; x.g = null (not initialised), write", "fails"])
 
     def test_a_specification_that_fails_tells_what_it_gave(self):
         self.assertEqual(self.rows("method m(x: Ref) requires acc(x.g) && x.f > 0", ["var x #1"]), ["x = #1", "gives x.g = null, write; fails at x.f"])
 
     def test_a_loop_whose_condition_fails(self):
         self.assertEqual(self.rows("method m(x: Ref) requires acc(x.f) { while (x.f > 0) { } }", ["var x #1"], "pick true", "state", "pick true", "state")[2:],
-                         ["any iteration; x.f stays outside; fails at x.f"])
+                         ["with only what the invariants give: x.f stays outside the loop; fails at x.f"])
         self.assertEqual(self.rows("method m(x: Ref) requires acc(x.f) { while (true) invariant acc(x.f) && x.f > 0 { } }", ["var x #1"], "pick true")[2:],
                          ["fails"])
 
     def test_what_stays_outside_of_an_iteration(self):
         method = "method m(x: Ref) returns (y: Ref) requires {} {{ while (true) invariant {} {{ y := null assert false }} }}"
-        for held, invariant, told in (("acc(x.f)", "acc(x.f, 1/2)", "any iteration: y = #1 (any value, was null); 1/2 of x.f stays outside"),
-                                      ("acc(x.f) && acc(x.g, 1/2)", "true", "any iteration: y = #1 (any value, was null); x.f stays outside; 1/2 of x.g stays outside")):
-            self.assertEqual(self.rows(method.format(held, invariant), ["var x #1"], "pick true", "state", "value #1", "pick true", "state")[2], told)
+        begin = "some iteration: y = #1 (left open by the invariants, was null)"
+        for held, invariant, told in (("acc(x.f)", "acc(x.f, 1/2)", "1/2 of x.f stays outside the loop"),
+                                      ("acc(x.f) && acc(x.g, 1/2)", "true", "x.f stays outside the loop; 1/2 of x.g stays outside the loop")):
+            self.assertEqual(self.rows(method.format(held, invariant), ["var x #1"], "pick true", "state", "value #1", "pick true", "state")[2],
+                             f"{begin}; {told}")
         self.assertEqual(self.rows(method.format("cell(x) && cell(null)", "cell(y)"), ["var x #1"], "pick true", "state", "value #2", "pick true", "state")[2],
-                         "any iteration: y = #2; takes cell(null); cell(x) stays outside; gives cell(y)")
+                         "some iteration: y = #2; takes cell(null); cell(x) stays outside the loop; gives cell(y)")
+
+    def test_what_several_parts_give_together(self):
+        self.assertEqual(self.rows("method m(x: Ref, y: Ref) requires acc(x.f, 1/2) && acc(y.f, 1/2) { assert false }",
+                                   ["var x #1", "var y #1"], "pick true")[1],
+                         "gives x.f = 0, write: 1/2 of x.f and 1/2 of y.f, which are one place")
+        self.assertEqual(self.rows("method m(x: Ref) requires acc(x.f, 1/2) && acc(x.f, none) && acc(x.f, 1/4) { assert false }",
+                                   ["var x #1"], "pick true")[1], "gives x.f = 0, 3/4: 1/2 of x.f and 1/4 of x.f")
+        self.assertEqual(self.rows("predicate two(x: Ref, y: Ref) { acc(x.f, 1/2) && acc(y.f, 1/4) }\n"
+                                   "method m(x: Ref, y: Ref) requires acc(cell(x), 1/2) && acc(cell(y), 1/2) && two(x, y) { unfold two(x, y) assert false }",
+                                   ["var x #1", "var y #1", "content two #1 #1 pair leaf 2 leaf 2", "content cell #1 leaf 2"], "pick true")[1:3],
+                         ["gives cell(x) {f 2}, write: 1/2 of cell(x) and 1/2 of cell(y), which are one instance; two(x, x) {f 2, f 2}",
+                          "x.f = 2, 3/4: 1/2 of x.f and 1/4 of y.f, which are one place"])
+
+    def test_what_an_unfolding_opens_gives_nothing(self):
+        self.assertEqual(self.rows("method m(x: Ref) requires cell(x) && acc(x.g) && unfolding cell(x) in x.f == 2 { unfold cell(x) assert false }",
+                                   ["var x #1", "content cell #1 leaf 2"], "pick true")[1:3],
+                         ["gives x.g = null, write; cell(x) {f 2}", "x.f = 2, write"])
+
+    def test_what_fails_reads_it_where_an_iteration_begins(self):
+        method = """method m(x: Ref, y: Ref) requires acc(x.f) && acc(y.f) && acc(x.g) && x.f == y.f {
+ while (true) invariant acc(x.f) && acc(y.f) && acc(x.g) && x.g == null && x.f == y.f { x.f := 1 } }"""
+        self.assertEqual(self.rows(method, ["var x #1", "var y #2"], "pick true", "state", "pick true", "state")[2],
+                         "some iteration: x.f = 0; y.f = 0")
 
     def test_a_postcondition_by_itself(self):
         for ensures, told in (("x.f > 0", "its permission does not count here"), ("old(x.g) == null", "gives x.f = 0, write")):
