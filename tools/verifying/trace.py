@@ -193,12 +193,13 @@ class Telling:
         """All that changed, or that nothing had to."""
         others = [it for it in changes if it.kind != "variable"]
         quiet = self.step.kind in ("fold", "unfold")
-        lost = [it for it in others if it.lost() and it.held == 1 and not quiet]
+        outside = [it for it in others if it.now < it.held and self.stays_outside(it)]
+        taken = [it for it in others if it.lost() and it.held == 1 and not quiet and it not in outside]
+        more = [it for it in others if it.held != it.now and not it.gained() and it not in outside + taken and not (it.lost() and quiet)]
         gained = [self.gained(it) for it in others if it.gained()]
         parts = [self.variables(changes)]
         parts += [self.written()] if self.step.kind == "assign" and not self.step.targets else [self.any(it) for it in others if it.other()]
-        parts += self.lost(lost)
-        parts += [self.more(it) for it in others if it.held != it.now and not it.gained() and not (it.lost() and (it.held == 1 or quiet))]
+        parts += [self.taken(taken), self.outside(outside), *[self.more(it) for it in more]]
         gives = self.step.kind in GIVES or any([it.startswith("takes ") for it in parts])
         parts += [("gives " if gives else "") + "; ".join(gained) if gained else ""]
         told = "; ".join([it for it in parts if it])
@@ -209,11 +210,16 @@ class Telling:
         is_cut = self.step.way == "turn" and self.step.first == self.failing.first and self.failing.fault is not None
         return BY_INVARIANTS if is_cut else WAYS.get(self.step.way, self.step.way)
 
-    def lost(self, changes):
-        """What is no longer held: it was taken, or stays outside of an iteration."""
-        outside, taken = ([self.names.thing(it.kind, it.thing) for it in changes if self.stays_outside(it) == way] for way in (True, False))
-        stay = f"{', '.join(outside)} stay{'s' * (len(outside) == 1)} outside the loop" if outside else ""
-        return [f"takes {', '.join(taken)}" if taken else "", stay]
+    def taken(self, changes):
+        """What was held in full and was taken."""
+        names = [self.names.thing(it.kind, it.thing) for it in changes]
+        return f"takes {', '.join(names)}" if names else ""
+
+    def outside(self, changes):
+        """What stays outside of an iteration."""
+        names = [self.names.thing(it.kind, it.thing) for it in changes]
+        much = [name if it.held - it.now == 1 else f"{amount(it.held - it.now)} of {name}" for name, it in zip(names, changes)]
+        return f"{', '.join(much)} stay{'s' * (len(much) == 1)} outside the loop" if much else ""
 
     def stays_outside(self, change):
         """Whether an iteration has of a thing what the invariants took, so that the rest stays outside."""
@@ -310,8 +316,6 @@ class Telling:
     def more(self, it):
         """A place or an instance of which more is held, or less."""
         change, name = it.now - it.held, self.names.thing(it.kind, it.thing)
-        if change < 0 and self.stays_outside(it):
-            return f"{amount(-change)} of {name} stays outside the loop"
         if change < 0:
             return f"takes {amount(-change)} of {name}, {amount(it.now)} is left"
         return f"gives {amount(change)} of {name}, {amount(it.now)} is held"

@@ -167,7 +167,7 @@ method get() returns (x: Ref, n: Int) ensures acc(x.f) && acc(cell(x), 1/2)
         method = "method m(x: Ref) returns (y: Ref) requires {} {{ while (true) invariant {} {{ y := null assert false }} }}"
         begin = "some iteration: y = #1 (left open by the invariants, was null)"
         for held, invariant, told in (("acc(x.f)", "acc(x.f, 1/2)", "1/2 of x.f stays outside the loop"),
-                                      ("acc(x.f) && acc(x.g, 1/2)", "true", "x.f stays outside the loop; 1/2 of x.g stays outside the loop")):
+                                      ("acc(x.f) && acc(x.g, 1/2)", "true", "x.f, 1/2 of x.g stay outside the loop")):
             self.assertEqual(self.rows(method.format(held, invariant), ["var x #1"], "pick true", "state", "value #1", "pick true", "state")[2],
                              f"{begin}; {told}")
         self.assertEqual(self.rows(method.format("cell(x) && cell(null)", "cell(y)"), ["var x #1"], "pick true", "state", "value #2", "pick true", "state")[2],
