@@ -5,6 +5,7 @@ import shlex
 import shutil
 import subprocess
 
+PATIENCE = 300.0     # seconds for which tar is waited for
 ESSENTIAL = ("bash", "coreutils", "dash", "sed")   # each Debian has these; the scripts call nothing of the others
 LINKS = {"bin": "usr/bin", "lib": "usr/lib", "lib64": "usr/lib64", "sbin": "usr/sbin"}
 # In a namespace of its own the root gets the devices and the processes, and what follows may mount.
@@ -59,7 +60,7 @@ def furnish(root, packages):
     copy.stdin.write("\0".join(files).encode())
     copy.stdin.close()
     copy.stdout.close()
-    if into.wait() or copy.wait():
+    if into.wait(PATIENCE) or copy.wait(PATIENCE):
         raise AssertionError("the root cannot be furnished")
     for it in ("dev", "proc", "tmp", "root", "etc"):
         os.makedirs(os.path.join(root, it), exist_ok=True)

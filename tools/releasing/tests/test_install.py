@@ -80,7 +80,7 @@ class Installed(unittest.TestCase):
             child = subprocess.Popen(command, stdin=subprocess.DEVNULL, stderr=subprocess.DEVNULL)
             time.sleep(seconds)
             child.terminate()
-            child.wait()
+            child.wait(60)
             self.assertEqual(files(self.prefix), before)
 
     def test_a_copy_that_is_not_there_is_not_taken_away(self):

@@ -102,7 +102,7 @@ class Browser:
 
     def end(self):
         self.process.kill()
-        self.process.wait()
+        self.process.wait(PATIENCE)
         os.close(self.into)
         os.close(self.out)
         for _ in range(50):     # its children may still write there

@@ -15,6 +15,11 @@ from verifying import boogie_word, checking, command, files, processes
 from verifying.program import TOP, find
 
 READY = bool(os.environ.get("REMDUSKA")) and shutil.which("z3") is not None
+PATIENCE = 60.0     # seconds for which something is waited for
+LASTING = """#!/bin/sh
+case $1 in prove | values) exec sleep 600 ;; esac
+exec "$TRUE_PROVE" "$@"
+"""
 
 
 def called(*words):
@@ -89,16 +94,20 @@ class Processes(unittest.TestCase):
     def ask(self, function, *values):
         self.pool.submit(processes.Job(function, values, self.said.append, lambda why: self.said.append(f"failed: {why}"), self.told.append))
 
+    def wait_until(self, holds):
+        end = time.monotonic() + PATIENCE
+        while not holds():
+            self.assertLess(time.monotonic(), end, "the work does not come to it")
+            self.pool.step(0.01)
+
     def wait(self):
-        while self.pool.is_busy():
-            self.pool.step(1)
+        self.wait_until(lambda: not self.pool.is_busy())
 
     def test_what_a_process_started_ends_with_it(self):
         with tempfile.TemporaryDirectory() as room:
             path = os.path.join(room, "pid")
             self.ask(begins, path)
-            while not os.path.exists(path) or not os.path.getsize(path):
-                self.pool.step(0.01)
+            self.wait_until(lambda: os.path.exists(path) and os.path.getsize(path))
             self.pool.end()
             with open(path) as it:
                 number = int(it.read())
@@ -192,16 +201,24 @@ class Calls(unittest.TestCase):
         self.assertTrue(said.stdout.startswith(b"// failed 53:5 24:26 false\n"))
 
     def test_a_call_that_is_stopped_leaves_nothing_behind(self):
-        with tempfile.TemporaryDirectory() as room:
-            slow = "method m(a: Int, b: Int, c: Int) { assert a * a * a + b * b * b != c * c * c + 42 * a }\n"
-            call = subprocess.Popen([sys.executable, f"{TOP}/tools/verify", "--seconds", "600", "-"], cwd=TOP, stdin=subprocess.PIPE,
-                                    stdout=subprocess.PIPE, env={**os.environ, "TMPDIR": room})
-            call.stdin.write(slow.encode())
+        with tempfile.TemporaryDirectory() as folder:
+            room, lasting = os.path.join(folder, "room"), os.path.join(folder, "lasting")
+            os.mkdir(room)
+            with open(lasting, "w") as it:
+                it.write(LASTING)
+            os.chmod(lasting, 0o755)
+            call = subprocess.Popen([sys.executable, f"{TOP}/tools/verify", "-"], cwd=TOP, stdin=subprocess.PIPE, stdout=subprocess.PIPE,
+                                    env={**os.environ, "TMPDIR": room, "REMDUSKA_PROVE": lasting, "TRUE_PROVE": find().prove})
+            self.addCleanup(call.terminate)
+            call.stdin.write(b"method m() { assert true }\n")
             call.stdin.close()
-            while not any([os.listdir(it.path) for it in os.scandir(room) if it.is_dir()]):
+            end = time.monotonic() + PATIENCE
+            while not any([os.listdir(it.path) for it in os.scandir(room)]):
+                self.assertIsNone(call.poll(), "it ended before it was stopped")
+                self.assertLess(time.monotonic(), end, "it begins nothing")
                 time.sleep(0.05)
             call.terminate()
-            self.assertEqual((call.wait(60), os.listdir(room)), (143, []))
+            self.assertEqual((call.wait(PATIENCE), os.listdir(room)), (143, []))
             call.stdout.close()
 
     def test_several_files_go_on_and_the_worst_status_counts(self):
