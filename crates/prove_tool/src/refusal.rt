@@ -6,17 +6,17 @@ use std::fmt;
 use viper_file::ViperRefusal;
 use viper_syntax::LexFault;
 
-/// Why a file is refused. The reasons are tried in this order.
+/// Why a file is refused: for its text, or where that is accepted for the file of certificates.
 #[derive(Clone, Copy, Debug, PartialEq, Eq)]
 pub enum ProveRefusal {
     /// The file of Viper is refused.
     Viper(ViperRefusal),
     /// The text of Boogie is refused.
     Boogie(BoogieRefusal),
-    /// A section of the file of certificates has more than `MAX_BOOGIE_BYTES` bytes.
+    /// The section of a unit in the file of certificates has more than `MAX_BOOGIE_BYTES` bytes. What stands behind is not looked at.
     CertificateSize,
-    /// A section that no unit takes begins at this line of the file of certificates, from 1 on: there is one too many, or it is of
-    /// another unit.
+    /// A section that no unit takes, of whatever size, begins at this line of the file of certificates, from 1 on: there is one too
+    /// many, or it is of another unit.
     Certificate(usize),
 }
 

@@ -38,7 +38,7 @@ pub struct Sections {
     is_read: bool,
     /// How many lines were taken.
     lines: usize,
-    /// Whether the next section has more than `MAX_BOOGIE_BYTES` bytes.
+    /// Whether the next section is of a unit, and has more than `MAX_BOOGIE_BYTES` bytes.
     is_long: bool,
 }
 
@@ -49,7 +49,7 @@ pub enum Rest {
     /// A section that no unit has taken begins at this line, from 1 on: there are too many, or it is of no unit of the file, or of one
     /// before the units that have taken theirs.
     Untaken(usize),
-    /// A section has more than `MAX_BOOGIE_BYTES` bytes.
+    /// The section of a unit has more than `MAX_BOOGIE_BYTES` bytes. The unit does not take it, and no later one takes another.
     Long,
 }
 
