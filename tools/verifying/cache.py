@@ -1,8 +1,8 @@
-"""What earlier calls found of units, so that it is not searched for again: certificates, and runs that fail.
+"""The runs that earlier calls found of units, so that they are not searched for again.
 
-Nothing of it is trusted. A certificate counts where the program accepts it for today's text, and a run where the program fails on it at
-the label; what does not is searched for, and so is all of which nothing is kept. So what somebody else wrote there does no harm but to
-take time. A unit is known by the text of its procedure without places, and by the programs.
+Nothing of it is trusted. A run counts where the program fails on it at the label; what does not is searched for, and so is all of which
+nothing is kept. So what somebody else wrote there does no harm but to take time. A unit is known by the text of its procedure without
+places, and by the programs.
 
 Each entry is a file of its own, which is written beside its place and then renamed. There is room for so many bytes in each of the
 folders; what was not used for the longest time goes first."""
@@ -13,13 +13,13 @@ import re
 import tempfile
 import time
 import zlib
-from typing import Dict, List, NamedTuple, Optional
+from typing import Dict, List, NamedTuple
 
 FOLDERS = 64
 ROOM = 2 << 20      # bytes of entries in a folder
 LARGEST = 32 << 20  # bytes of an entry that is unpacked
 STALE = 3600        # seconds after which a file that was not renamed is nobody's
-FORM = "2"          # of an entry, of what it is known by, and of how runs are chosen
+FORM = "3"          # of an entry, of what it is known by, and of how runs are chosen
 LABEL = re.compile(r'(?<=\{:msg ")(\d+:\d+) (\d+:\d+)(?= \w+"\})')
 OPENING, CHOICE, FILLING = ("var", "heap", "content"), ("pick", "value", "amount", "fresh", "state"), ("heap", "content")
 OF_BOOGIE = ("var", "entries", "at", "pick", "value")
@@ -33,15 +33,6 @@ class KnownRun(NamedTuple):
     is_small: bool
     is_behind: bool
     is_beside: bool
-
-
-class Known(NamedTuple):
-    """What was found of a unit: a certificate, or the runs by their labels, in the order in which they were told."""
-    certificate: Optional[str] = None
-    runs: Dict[str, KnownRun] = {}
-
-
-NOTHING = Known()
 
 
 class Places:
@@ -76,10 +67,11 @@ class Cache:
         name = hashlib.sha256("\n".join([FORM, self.programs, places.text]).encode()).hexdigest()
         return os.path.join(self.folder, f"{int(name[:8], 16) % FOLDERS:02}", name)
 
-    def known(self, text) -> Known:
-        """What is known of the unit with this text of its procedure. What cannot be read is not known."""
+    def known(self, text) -> Dict[str, KnownRun]:
+        """The runs that are known of the unit with this text of its procedure, by their labels, in the order in which they were told.
+        What cannot be read is not known."""
         if self.folder is None:
-            return NOTHING
+            return {}
         places = Places(text)
         path = self.path(places)
         try:
@@ -88,14 +80,14 @@ class Cache:
             os.utime(path)
             return found
         except (OSError, ValueError, LookupError, TypeError, AttributeError, RecursionError, zlib.error):
-            return NOTHING
+            return {}
 
-    def keep(self, text, found: Known):
-        """Keeps what was found of a unit. Where that cannot be written it is done without."""
-        if self.folder is None or found == NOTHING:
+    def keep(self, text, runs: Dict[str, KnownRun]):
+        """Keeps the runs that were found of a unit. Where that cannot be written it is done without."""
+        if self.folder is None or not runs:
             return
         places = Places(text)
-        path, data = self.path(places), written(found, places)
+        path, data = self.path(places), written(runs, places)
         if len(data) > ROOM:
             return
         try:
@@ -106,27 +98,23 @@ class Cache:
             pass
 
 
-def written(found, places):
+def written(runs, places):
     """The bytes of an entry."""
-    runs = [[places.of_label(label), *it] for label, it in found.runs.items()]
-    return zlib.compress(json.dumps({"certificate": found.certificate, "runs": runs}).encode())
+    return zlib.compress(json.dumps([[places.of_label(label), *it] for label, it in runs.items()]).encode())
 
 
-def read(data, places) -> Known:
+def read(data, places) -> Dict[str, KnownRun]:
     """What the bytes of an entry say. Whatever they are, it has the form that is expected, or it fails."""
     unpacked = zlib.decompressobj()
     text = unpacked.decompress(data, LARGEST)
     if not unpacked.eof:
         raise ValueError("no whole entry")
-    said = json.loads(text)
-    certificate, runs = said["certificate"], {}
-    if certificate is not None and not (isinstance(certificate, str) and certificate.isascii()):
-        raise ValueError("no text of a certificate")
-    for label, choices, *how in said["runs"]:
+    runs = {}
+    for label, choices, *how in json.loads(text):
         lines = [line for choice in choices for line in choice]
         is_small, is_behind, is_beside = [it is True for it in how]
         runs[places.to_label(label)] = KnownRun(grouped(lines), is_small, is_behind, is_beside)
-    return Known(certificate, runs)
+    return runs
 
 
 def grouped(lines):

@@ -4,23 +4,20 @@ import shutil
 import signal
 import sys
 import tempfile
-import time
 
 from . import boogie_word, cache, work, words
-from .certifying import Certified
 from .files import bytes_of, shown_path, source_of
 from .gathered import beside
 from .processes import Job, Pool
 from .program import NoProgram, find
 from .report import NO_CALL, Lines
 from .report_json import Json
-from .results import CERTIFY, unknown
+from .results import unknown
 from .turns import Turns, UnitAtWork
 from .units import VERIFIED
 
 AHEAD = 4       # so many files for each process are translated before they are looked at
 SMOKE = 1.0     # seconds for spots that no run reaches, where nobody asked for them
-LONG = 1.0      # seconds for certificates, before what is known is told without them
 TICK = 0.25     # seconds after which it is looked what may be told
 
 
@@ -87,7 +84,7 @@ def status_of(given_words, page):
         from .checking import check
         return check(options._replace(cache=False), programs_for(options))
     if options.ship is not None and len(args.files) != 1:
-        raise NoTool("--certificates takes one file of Viper")
+        raise NoTool("--certificates takes one file")
     if options.watch:
         from .language_server.watch import watch
         return watch(args.files, options)
@@ -184,13 +181,9 @@ class Command:
         shutil.rmtree(file.room, ignore_errors=True)
         file.data = None
 
-    def wait_for(self, file, is_done, what, late=None):
-        """Works until something is done, and tells what is found of a file meanwhile. `late` is called once where it takes long."""
-        end = time.monotonic() + LONG
+    def wait_for(self, file, is_done, what):
+        """Works until something is done, and tells what is found of a file meanwhile."""
         while not is_done():
-            if late is not None and time.monotonic() > end:
-                late()
-                late = None
             self.progress.tell(f"{shown_path(file.path)}: {what}")
             self.pool.step(TICK)
             self.progress.clear()
@@ -230,12 +223,9 @@ class Command:
         self.wait_for(file, lambda: file.tasks == 0, "looking for runs that fail")
         file.turns.tell()
         self.ask_for_certificates(file)
-        self.ask_for_all_certificates(file)
         self.ask_for_spots(file)
-        self.wait_for(file, lambda: file.tasks == 0, "looking for certificates", lambda: self.report.waits(file.given, file.results()))
+        self.wait_for(file, lambda: file.tasks == 0, "looking for spots that no run reaches")
         for it in file.units:
-            if it.result.verdict == VERIFIED:
-                self.report.certified(file.given, it.unit, it.result)
             spots = [spot for spot in file.spots if spot.unit == it.unit.name]
             if spots:
                 self.report.unreached(file.given, it.unit, spots)
@@ -275,8 +265,8 @@ class Command:
         self.pool.submit(Job(function, values, ended(done), ended(failed), tell))
 
     def examine(self, file, it):
-        def done(found):
-            it.result, it.conditions = found
+        def done(result):
+            it.result = result
 
         def failed(why):
             it.result = unknown(it.unit.name, why)
@@ -284,25 +274,6 @@ class Command:
         self.submit(file, work.examined, (file.given._replace(units=[]), it.unit, self.options), done, failed, it.add)
 
     def ask_for_certificates(self, file):
-        """Has certificates searched for, in the time that is left of each unit's."""
-        if not self.options.certificates or file.given.is_searched:
-            return
-        for it in file.units:
-            if it.result.verdict == VERIFIED and it.result.certified is None:
-                self.certify(file, it)
-
-    def certify(self, file, it):
-        def done(found):
-            programs = [CERTIFY] if found.certificate is not None else it.result.told_by
-            it.result = it.result._replace(certified=found, told_by=programs)
-
-        def failed(why):
-            it.result = it.result._replace(certified=Certified(None, why))
-
-        left = max(0.0, self.options.seconds - it.result.seconds)
-        self.submit(file, work.with_certificate, (file.given._replace(units=[]), it.unit, it.conditions, left), done, failed)
-
-    def ask_for_all_certificates(self, file):
         """Has the certificates of a file written that are to be shipped or kept with it."""
         paths = [self.options.ship] * (self.options.ship is not None)
         if self.report.keeper is not None:
@@ -318,7 +289,7 @@ class Command:
         def failed(why):
             raise NoTool(why)
 
-        self.submit(file, work.all_certificates, (file.given.copy,), done, failed)
+        self.submit(file, work.certificates, (file.given.asked_of(), file.given.is_boogie), done, failed)
 
     def ask_for_spots(self, file):
         """Has spots of verified units looked for that no run reaches: where it is wanted, or where it is not said and takes little time."""

@@ -34,7 +34,7 @@ class Unit(NamedTuple):
 
 class Given(NamedTuple):
     """A file: `path` is what it was called, `copy` the file in `room` that has its bytes, `text_file` that of the Boogie program,
-    which begins with `prelude`; there is none where nothing of it is asked for. `is_searched` tells whether `prove` was asked, and
+    which begins with `prelude`; there is none where nothing of it is asked for. `is_searched` tells whether `prove` is asked, and
     `seconds` how long it took."""
     path: str
     copy: str
@@ -47,6 +47,10 @@ class Given(NamedTuple):
     refused: Optional[Told]
     reason: str
     seconds: float = 0.0
+
+    def asked_of(self):
+        """The file that `prove` is asked of: of a program of Boogie that without loops and calls."""
+        return self.text_file if self.is_boogie else self.copy
 
 
 def bytes_of(path):
@@ -72,23 +76,32 @@ def shown_path(path):
 
 
 def given(path, data, program, room, wants_text, is_for_z3=False) -> Given:
-    """Has the program prove a file and, where something is left open or the text is wanted, translate it; or cut it, where its name
-    says that it is one of Boogie. What is open and is for z3 gets its conditions, and else what the program finds of its labels."""
+    """Has the program prove a file and, where something is left open or the text is wanted, translate it. A file whose name says that
+    it is one of Boogie is cut first. What is open and is for z3 gets its conditions, and else what the program finds of its labels."""
     is_boogie = path.endswith(".bpl")
     copy, source = os.path.join(room, "given.bpl" if is_boogie else "given.vpr"), source_of(path, data)
     with open(copy, "wb") as it:
         it.write(data)
-    is_searched = not is_boogie and program.searches()
-    if not is_searched:
-        return translated(Given(path, copy, None, "", is_boogie, False, frozenset(), [], None, ""), source, data, program)
+    found = Given(path, copy, None, "", is_boogie, program.searches(), frozenset(), [], None, "")
+    if is_boogie or not found.is_searched:
+        found = translated(found, source, data, program)
+    if found.refused or not found.is_searched:
+        return found
     start = time.monotonic()
-    answers = program.prove(copy)
-    found = Given(path, copy, None, "", False, True, frozenset(), [], None, "", time.monotonic() - start)
+    answers = program.prove(found.asked_of(), is_boogie=is_boogie)
+    found = found._replace(seconds=time.monotonic() - start)
     if answers.refusal:
-        return found._replace(refused=refusals.told(source, answers.refusal), reason=answers.refusal)
-    if wants_text or answers.open:
-        return with_answers(translated(found, source, data, program), source, program, answers.open, is_for_z3)
+        return refused(found, source, answers.refusal)
+    if not is_boogie and (wants_text or answers.open):
+        found = translated(found, source, data, program)
+    if found.text_file is not None:
+        return with_answers(found, source, program, answers.open, is_for_z3)
     return found._replace(units=[proved_unit(source, it) for it in answers.proved])
+
+
+def refused(found, source, reason) -> Given:
+    """A file that the program refuses."""
+    return found._replace(refused=boogie_refusal(reason) if found.is_boogie else refusals.told(source, reason), reason=reason)
 
 
 def translated(found, source, data, program) -> Given:
@@ -96,8 +109,7 @@ def translated(found, source, data, program) -> Given:
     said = program.cut(found.copy) if found.is_boogie else program.translate(found.copy)
     if said.status != 0:
         lines = said.error.strip().splitlines()
-        reason = lines[-1] if lines else f"the program ended with status {said.status}"
-        return found._replace(refused=boogie_refusal(reason) if found.is_boogie else refusals.told(source, reason), reason=reason)
+        return refused(found, source, lines[-1] if lines else f"the program ended with status {said.status}")
     if not said.out.startswith("type Ref;\n"):
         raise NotAsWritten("what the program writes is no program of Boogie")
     text_file = os.path.join(os.path.dirname(found.copy), "text.bpl")
@@ -111,7 +123,7 @@ def translated(found, source, data, program) -> Given:
 
 def with_answers(found, source, program, open_, is_for_z3) -> Given:
     """A file with what `prove` says of each unit: `open_` has the first label of each one that is not proved."""
-    conditions = program.conditions(found.copy) if open_ and is_for_z3 else {}
+    conditions = program.conditions(found.asked_of(), found.is_boogie) if open_ and is_for_z3 else {}
     values = values_of_open(found, source, program, open_) if open_ and not is_for_z3 else {}
 
     def told(it):
@@ -124,11 +136,14 @@ def with_answers(found, source, program, open_, is_for_z3) -> Given:
 
 def values_of_open(found, source, program, open_):
     """What the program finds of the labels of the units that are open, by the names of their procedures. Of the methods that are proved it
-    is given no bodies, so that nothing of these is looked for."""
-    path = os.path.join(os.path.dirname(found.copy), "open.vpr")
+    is given no bodies, and of Boogie no procedures that are, so that nothing of these is looked for."""
+    path = os.path.join(os.path.dirname(found.copy), "open.bpl" if found.is_boogie else "open.vpr")
     with open(path, "wb") as into:
-        into.write(without_bodies(source, {it.name for it in found.units if it.name not in open_}))
-    return program.values(path)
+        if found.is_boogie:
+            into.write((found.prelude + "".join([it.text for it in found.units if it.name in open_])).encode())
+        else:
+            into.write(without_bodies(source, {it.name for it in found.units if it.name not in open_}))
+    return program.values(path, is_boogie=found.is_boogie)
 
 
 @functools.lru_cache(maxsize=2)

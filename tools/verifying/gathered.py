@@ -70,9 +70,6 @@ class Gathered:
         if result.why:
             found.warnings.append(Warned(unit.line, unit.column, "warning", "undecided", f"undecided: `{unit.name}`: {result.why}"))
 
-    def certified(self, given, unit, result):
-        self.file_of(given).results[unit.name] = result
-
     def unreached(self, given, unit, spots):
         for it in spots:
             self.file_of(given).warnings.append(Warned(it.line, it.column, "warning", "unreached", it.words))

@@ -25,26 +25,13 @@ class Keeper:
         return f"{self.begin(given)}.cert"
 
     def error(self, given, unit, error):
-        """Keeps the runs of an error. A certificate that an earlier call kept of the unit is none any more."""
+        """Keeps the runs of an error."""
         stem = f"{self.begin(given)}.{unit.name}"
-        self.remove(f"{stem}.cert")
         for it in error.labels:
             name = f"{stem}.{re.sub(r'[: ]', '-', it.label)}"
             for ending, text in ((".run", it.run), (".brun", it.boogie_run)):
                 if text:
                     self.write(name + ending, text)
-
-    def certified(self, given, unit, result):
-        """Keeps the certificate of a unit, or removes that of an earlier call."""
-        name = f"{self.begin(given)}.{unit.name}.cert"
-        if result.certified and result.certified.certificate:
-            self.write(name, result.certified.certificate)
-        else:
-            self.remove(name)
-
-    def remove(self, path):
-        if os.path.lexists(path):
-            os.remove(path)
 
     def write(self, path, text):
         with open(path, "w", encoding="utf-8") as into:

@@ -7,7 +7,7 @@ from typing import Dict, List, NamedTuple, Optional
 from .boogie_text import NotAsWritten
 
 TOP = os.path.dirname(os.path.dirname(os.path.dirname(os.path.realpath(__file__))))
-PART_OF = {"run": "remduska", "replay": "remduska", "certify": "prove"}
+PART_OF = {"run": "remduska", "replay": "remduska"}
 UNPROVED = "-unproved"      # so end the names of programs that are compiled and not proved
 DONE, REFUSED, OPEN = 0, 1, 10
 
@@ -30,8 +30,7 @@ class TooLate(Exception):
 
 
 class Paths(NamedTuple):
-    """The files of the programs. `searches` tells whether `prove` is asked for proofs of Viper files: it writes conditions and checks
-    certificates in any case."""
+    """The files of the programs. `searches` tells whether `prove` is asked for proofs: it writes conditions in any case."""
     remduska: str
     prove: str
     searches: bool = True
@@ -136,7 +135,7 @@ class Program:
         self.paths = paths
 
     def searches(self):
-        """Whether `prove` is asked for proofs of Viper files."""
+        """Whether `prove` is asked for proofs."""
         return self.paths.searches
 
     def says(self, *words) -> Said:
@@ -163,30 +162,33 @@ class Program:
         """Of which procedures of a text of Boogie certificates show that no run fails."""
         return says(self.paths.prove, "certify-boogie", text, certificates)
 
-    def prove(self, file, seconds=None) -> Answers:
-        """Of which units of a Viper file no run fails, or TooLate where the call takes longer than it may."""
-        return answers_of(says(self.paths.prove, "prove", file, seconds=seconds))
+    def asked(self, word, file, is_boogie, seconds=None) -> Said:
+        """What `prove` says to a word of the units of a Viper file, or of the procedures of a text of Boogie."""
+        return says(self.paths.prove, f"{word}-boogie" if is_boogie else word, file, seconds=seconds)
 
-    def certificates(self, file) -> str:
-        """The certificates of the units of a Viper file, one behind the other."""
-        said = says(self.paths.prove, "certificates", file)
+    def prove(self, file, seconds=None, is_boogie=False) -> Answers:
+        """Of which units of a file no run fails, or TooLate where the call takes longer than it may."""
+        return answers_of(self.asked("prove", file, is_boogie, seconds))
+
+    def certificates(self, file, is_boogie=False) -> str:
+        """The certificates of the units of a file, one behind the other."""
+        said = self.asked("certificates", file, is_boogie)
         if said.status not in (DONE, OPEN):
             raise NotAsWritten(f"certificates says {said.first()}")
         return said.out
 
     def conditions(self, file, is_boogie=False) -> Dict[str, str]:
-        """The texts of the conditions of all units of a Viper file, or of all procedures of a text of Boogie, by the names of their
-        procedures: when their assertions fail."""
-        said = says(self.paths.prove, "conditions-boogie" if is_boogie else "conditions", file)
+        """The texts of the conditions of all units of a file, by the names of their procedures: when their assertions fail."""
+        said = self.asked("conditions", file, is_boogie)
         if said.status != DONE:
             raise NotAsWritten(f"conditions says {said.first()}")
         return parts_of(said.out, "conditions")
 
-    def values(self, file, seconds=None) -> Dict[str, str]:
-        """What is found of the labels of all units of a Viper file, by the names of their procedures: nothing where the call went wrong or
-        took longer than it may, since what is not found may be looked for elsewhere."""
+    def values(self, file, seconds=None, is_boogie=False) -> Dict[str, str]:
+        """What is found of the labels of all units of a file, by the names of their procedures: nothing where the call went wrong or took
+        longer than it may, since what is not found may be looked for elsewhere."""
         try:
-            said = says(self.paths.prove, "values", file, seconds=seconds)
+            said = self.asked("values", file, is_boogie, seconds)
         except TooLate:
             return {}
         return parts_of(said.out, "unit") if said.status in (DONE, OPEN) else {}

@@ -1,6 +1,4 @@
 """Prints what is told of files and units, for people and editors. Each line that an editor has to see is `FILE:LINE:COL: KIND: TEXT`."""
-import sys
-
 from . import colour, refusals, telling
 from .boogie_word import differences
 from .files import shown_path
@@ -52,19 +50,13 @@ class Report:
         self.errors += number
 
     def unit(self, given, unit, result):
-        """A unit of which all is known but a certificate that is searched for."""
+        """A unit of which all is known."""
         self.units, self.verified, self.open = self.units + 1, self.verified + (result.verdict == VERIFIED), self.open + len(result.open)
         self.worse({VERIFIED: ALL_RIGHT, FAILS: CAN_FAIL, UNDECIDED: NOT_DECIDED}[result.verdict])
-
-    def waits(self, given, results):
-        """All units of a file are decided, and certificates are still looked for."""
-
-    def certified(self, given, unit, result):
-        """A verified unit of which it is known whether it has a certificate."""
         if self.options.strict and not result.is_checked():
             self.worse(NOT_DECIDED)
         if self.keeper:
-            self.keeper.certified(given, unit, result)
+            self.keeper.begin(given)
 
     def unreached(self, given, unit, spots):
         """Spots of a verified unit that no run reaches."""
@@ -154,19 +146,9 @@ class Lines(Report):
             self.told_at(given, unit.line, unit.column, "warning", f"undecided: `{unit.name}`: {result.why}")
         if self.options.times and not unit.is_proved:
             self.told_at(given, unit.line, unit.column, "note", f"`{unit.name}` took {result.seconds:.2f} s")
-
-    def waits(self, given, results):
-        super().waits(given, results)
-        if self.options.certificates and not given.is_searched:
-            verified = f"{sum([it.verdict == VERIFIED for it in results])} of {counted(len(results), 'unit')} verified on z3's word"
-            print(f"{shown_path(given.path)}: {verified}; certificates are looked for", file=sys.stderr, flush=True)
-
-    def certified(self, given, unit, result):
-        super().certified(given, unit, result)
-        if not result.is_checked() and (self.options.certificates or self.options.strict):
-            why = f": {result.certified.why}" if result.certified else ""
+        if result.verdict == VERIFIED and not result.is_checked() and (self.options.certificates or self.options.strict):
             kind = "warning" if self.options.strict else "note"
-            self.told_at(given, unit.line, unit.column, kind, f"`{unit.name}` is verified on {whose_word([result])}{why}")
+            self.told_at(given, unit.line, unit.column, kind, f"`{unit.name}` is verified on {whose_word([result])}")
 
     def unreached(self, given, unit, spots):
         super().unreached(given, unit, spots)

@@ -34,23 +34,13 @@ class Json(Report):
                       end_column=it.end_column, why=it.why, **runs, state=it.state, needs=it.needs, trace=it.trace,
                       help=[its.data() for its in error.help])
 
-    def certified(self, given, unit, result):
-        super().certified(given, unit, result)
-        self.told(given, result)
-
     def unit(self, given, unit, result):
         super().unit(given, unit, result)
-        if result.verdict != "verified":
-            self.told(given, result)
-
-    def told(self, given, result):
-        """What is told of a unit of which all is known."""
         programs = [{"program": it, "proved": is_proved(self.paths, it)} for it in result.told_by]
         open_ = [{"label": it.label, "line": it.line, "column": it.column, "message": it.words, "why": it.why} for it in result.open]
-        why = result.why or (result.certified.why if result.certified else "")
         times = {"seconds": round(result.seconds, 3)} if self.options.times else {}
         self.data(file=name_of(given.path), unit=result.unit, verdict=result.verdict, checked=result.is_checked(), told_by=programs,
-                  undecided=open_, why=why, **times)
+                  undecided=open_, why=result.why, **times)
 
     def unreached(self, given, unit, spots):
         super().unreached(given, unit, spots)

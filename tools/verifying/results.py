@@ -3,7 +3,6 @@ import re
 from typing import List, NamedTuple, Optional, Sequence, Tuple
 
 from . import failures, following, identifiers, naming, telling
-from .certifying import Certified
 from .deciding import Mistake
 from .failures import Told
 from .helping import Help, help_of
@@ -12,7 +11,7 @@ from .run_files import scalar, spelled
 from .spans import span
 from .units import FAILS, UNDECIDED, VERIFIED, Failure
 
-PROVE, VALUES, CERTIFY, Z3, RUN, REPLAY = "prove", "values", "certify", "z3", "run", "replay"
+PROVE, VALUES, Z3, RUN, REPLAY = "prove", "values", "z3", "run", "replay"
 
 
 class Label(NamedTuple):
@@ -66,20 +65,19 @@ class Open(NamedTuple):
 
 
 class Result(NamedTuple):
-    """What is known of a unit once all is looked at. `labels` are all that can fail, `told_by` the programs whose word the verdict
-    is, and `certified` is there of a unit whose certificate was asked for."""
+    """What is known of a unit once all is looked at. `labels` are all that can fail, and `told_by` the programs whose word the verdict
+    is."""
     unit: str
     verdict: str
     why: str
     labels: List[Label]
     open: List[Open]
     told_by: Sequence[str]
-    certified: Optional[Certified]
     seconds: float
 
     def is_checked(self):
         """Whether a program that is proved to be right showed that no run of it fails."""
-        return self.verdict == VERIFIED and (PROVE in self.told_by or self.certified is not None and self.certified.certificate is not None)
+        return self.verdict == VERIFIED and PROVE in self.told_by
 
 
 class Teller:
@@ -195,4 +193,4 @@ def boogie_state(walk):
 
 def unknown(unit, why) -> Result:
     """What is told of a unit of which nothing is known."""
-    return Result(unit, UNDECIDED, why, [], [], (), None, 0.0)
+    return Result(unit, UNDECIDED, why, [], [], (), 0.0)

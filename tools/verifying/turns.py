@@ -14,7 +14,7 @@ class UnitAtWork:
 
     def __init__(self, unit):
         self.unit, self.found, self.failing = unit, [], set()
-        self.result, self.conditions, self.told, self.untold, self.is_ended = None, None, 0, 0, False
+        self.result, self.told, self.untold, self.is_ended = None, 0, 0, False
 
     def add(self, error):
         """Takes an error that is found."""

@@ -2,15 +2,13 @@
 import os
 import tempfile
 import time
-from typing import NamedTuple, Optional
 
 from . import files
 from .boogie_text import NotAsWritten
-from .cache import Cache, Known
-from .certifying import Certified, certified, checked
+from .cache import Cache
 from .deciding import Decider, Wants
 from .program import NoProgram, Program
-from .results import CERTIFY, PROVE, Result, Teller, unknown
+from .results import PROVE, Result, Teller, unknown
 from .smoke import unreached
 from .solver import NoSolver, Solver, is_there
 from .symbolic import TooSlow
@@ -46,32 +44,21 @@ def prepared(_, path, data, room, wants_text, is_for_z3):
     return files.given(path, data, MINE.program, room, wants_text, is_for_z3)
 
 
-class Examined(NamedTuple):
-    """What is told of a unit, and where a certificate of it may be looked for the text of its conditions."""
-    result: Result
-    conditions: Optional[str]
-
-
-def examined(tell, given, unit, options) -> Examined:
+def examined(tell, given, unit, options) -> Result:
     """Looks at a unit, and tells each error as soon as it is found."""
     try:
         return looked_at(tell, given, unit, options)
     except (NoSolver, NotAsWritten, NoProgram, TooSlow, RecursionError, MemoryError, OSError) as why:
-        return Examined(unknown(unit.name, f"{why}" or type(why).__name__), None)
+        return unknown(unit.name, f"{why}" or type(why).__name__)
     except Exception as fault:      # what these scripts did wrong, so that nothing of the other units is hidden by it
-        return Examined(unknown(unit.name, f"tools/verify went wrong: {type(fault).__name__}: {fault}"), None)
+        return unknown(unit.name, f"tools/verify went wrong: {type(fault).__name__}: {fault}")
 
 
 def looked_at(tell, given, unit, options):
-    start, known = time.monotonic(), MINE.cache.known(unit.text)
-    if known.certificate is not None and options.certificates and not given.is_searched:
-        found = checked(MINE.program, MINE.room, given, unit, known.certificate)
-        if found.certificate is not None:
-            return Examined(Result(unit.name, VERIFIED, "", [], [], [CERTIFY], found, time.monotonic() - start), None)
-    source = MINE.source_of(given)
+    start, source = time.monotonic(), MINE.source_of(given)
     teller = Teller(source, unit.name, given.is_boogie, options.wants_all_runs(), options.trace, options.runs)
     if not unit.values and MINE.solver is None:
-        return Examined(not_shown(teller, unit, time.monotonic() - start), None)
+        return not_shown(teller, unit, time.monotonic() - start)
     wants = Wants(options.all or options.json, options.runs, options.runs and options.all_runs, options.errors)
     examiner = Examiner(task_of(given, unit, options.seconds), MINE.program, MINE.solver, MINE.room)
     labels = []
@@ -81,13 +68,12 @@ def looked_at(tell, given, unit, options):
         labels.extend(error.labels)
         tell(error)
 
-    decider = Decider(examiner, source, wants, told, known.runs)
+    decider = Decider(examiner, source, wants, told, MINE.cache.known(unit.text))
     outcome = decider.outcome()
-    MINE.cache.keep(unit.text, Known(None, decider.runs))
+    MINE.cache.keep(unit.text, decider.runs)
     open_ = [teller.open(label, why) for label, why in outcome.open.items()]
     told_by = teller.told_by(outcome, examiner.asked_z3 or examiner.found is None)
-    result = Result(unit.name, outcome.verdict, "", labels, open_, told_by, None, time.monotonic() - start)
-    return Examined(result, examiner.text if outcome.verdict == VERIFIED and not given.is_searched else None)
+    return Result(unit.name, outcome.verdict, "", labels, open_, told_by, time.monotonic() - start)
 
 
 def task_of(given, unit, seconds) -> Task:
@@ -98,27 +84,17 @@ def task_of(given, unit, seconds) -> Task:
 def not_shown(teller, unit, seconds) -> Result:
     """What is told of a unit that is not proved, where no solver is asked."""
     open_ = [teller.open(unit.first_open, NOT_PROVED)] if unit.first_open else []
-    return Result(unit.name, UNDECIDED, "" if open_ else SPENT, [], open_, [PROVE], None, seconds)
+    return Result(unit.name, UNDECIDED, "" if open_ else SPENT, [], open_, [PROVE], seconds)
 
 
 def proved(unit) -> Result:
     """What is told of a unit that is proved."""
-    return Result(unit.name, VERIFIED, "", [], [], [PROVE], None, 0.0)
+    return Result(unit.name, VERIFIED, "", [], [], [PROVE], 0.0)
 
 
-def with_certificate(_, given, unit, conditions, seconds) -> Certified:
-    """The certificate of a unit that is verified on z3's word, if one is found."""
-    try:
-        found = certified(MINE.program, MINE.room, given, unit, conditions, time.monotonic() + seconds)
-        MINE.cache.keep(unit.text, Known(found.certificate))
-        return found
-    except (NoProgram, RecursionError, MemoryError, OSError) as why:
-        return Certified(None, f"{why}" or type(why).__name__)
-
-
-def all_certificates(_, file):
+def certificates(_, file, is_boogie):
     """The certificates of the units of a file, one behind the other."""
-    return MINE.program.certificates(file)
+    return MINE.program.certificates(file, is_boogie)
 
 
 def smoke(_, given, names, seconds):

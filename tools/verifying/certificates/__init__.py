@@ -1,1 +1,1 @@
-"""Certificates that no assertion of a procedure can fail: a maker, and a checker that reads their form anew (docs/certificates.md)."""
+"""Certificates that no assertion of a procedure can fail: a checker that reads their form anew (docs/certificates.md)."""

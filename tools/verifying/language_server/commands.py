@@ -48,17 +48,14 @@ def unit_of_page(live, name):
 
 
 def keep_certificate(server, live, name, folder=None):
-    """Writes the certificate of a unit, and the text of Boogie that it belongs to, beside the file or into a folder."""
+    """Writes the certificates of the units of a file of which one is proved, beside the file or into a folder."""
     verdict = live.verdict(name) if name else None
     if verdict is None or not verdict.is_proved:
         raise Fault(REQUEST_FAILED, f"of `{name}` there is no certificate")
     path = live.document.path
     stem = os.path.join(path_of(folder) if folder else os.path.dirname(path), plain_name(path))
     try:
-        if live.given.is_searched:
-            return kept(server, {"certificates": (f"{stem}.certs", Program(server.workers.paths).certificates(live.whole.whole))})
-        with open(live.whole.text, encoding="utf-8") as it:
-            return kept(server, {"certificate": (f"{stem}.{name}.cert", verdict.certificate), "text": (f"{stem}.text.bpl", it.read())})
+        return kept(server, {"certificates": (f"{stem}.certs", Program(server.workers.paths).certificates(live.whole.whole))})
     except OSError as fault:
         raise Fault(REQUEST_FAILED, f"{fault.filename}: {fault.strerror}") from None
 

@@ -6,7 +6,6 @@ from typing import FrozenSet, NamedTuple, Optional, Tuple
 
 from .. import failures, files, following, refusals, work
 from ..boogie_text import NotAsWritten
-from ..certifying import certified
 from ..deciding import Decider, Wants
 from ..helping import help_of
 from ..processes import deep
@@ -35,13 +34,12 @@ class Settings(NamedTuple):
 
 class Translated(NamedTuple):
     """What the programs say of a file: what is refused, or its units. `given` is the file without the bodies of the units `known`, of
-    which nothing is asked; `whole` is the path of the file as it is, and `text` that of its translation."""
+    which nothing is asked; `whole` is the path of the file as it is."""
     given: Optional[files.Given]
     refused: Tuple[Finding, ...]
     units: Tuple[files.Unit, ...]
     known: FrozenSet[str] = frozenset()
     whole: str = ""
-    text: str = ""
 
 
 def translated(path, data, room, known) -> Translated:
@@ -54,17 +52,17 @@ def translated(path, data, room, known) -> Translated:
 
 
 def looked_through(path, data, room, known):
-    source, whole, text = files.source_of(path, data), os.path.join(room, "whole.vpr"), os.path.join(room, "whole.bpl")
-    write(whole, data)
+    source, whole = files.source_of(path, data), os.path.join(room, "whole.vpr")
+    with open(whole, "wb") as into:
+        into.write(data)
     said = work.MINE.program.translate(whole)
     if said.status != 0:
         lines = said.error.strip().splitlines()
         return refused(source, lines[-1] if lines else f"the program ended with status {said.status}")
-    write(text, said.out.encode())
     given = work.prepared(None, path, without_bodies(source, known), room, True, False)
     if given.refused:
         return refused(source, given.reason)
-    return Translated(given._replace(units=[]), (), tuple(given.units), known, whole, text)
+    return Translated(given._replace(units=[]), (), tuple(given.units), known, whole)
 
 
 def refused(source, reason):
@@ -73,11 +71,6 @@ def refused(source, reason):
     helps = tuple(suggestions(source, told))
     code = reason.replace("error: ", "").split(" ")[0]
     return Translated(None, (Finding(told.line, told.column, "error", code, told.message, tuple(told.notes), helps),), ())
-
-
-def write(path, data):
-    with open(path, "wb") as into:
-        into.write(data)
 
 
 class Unit:
@@ -90,7 +83,7 @@ class Unit:
         self.findings, self.runs, self.more, self.helped = [], [], 0, []
 
     def look(self):
-        """Looks at it, and tells what is known: each mistake when it is found, and then whether it is verified, with its certificate."""
+        """Looks at it, and tells what is known: each mistake when it is found, and then whether it is verified."""
         mine, settings, unit = work.MINE, self.settings, self.unit
         examiner = Examiner(work.task_of(self.given, unit, settings.seconds), mine.program, mine.solver, mine.room)
         outcome = Decider(examiner, self.source, Wants(False, True, False, settings.errors), self.mistake, {}).outcome()
@@ -100,9 +93,7 @@ class Unit:
             return
         self.say(VERIFIED, [], is_whole=False)
         found = unreached(mine.program, mine.solver, mine.room, self.source, [unit.name], settings.seconds) if settings.smoke else []
-        spots = [Finding(it.line, it.column, "warning", "unreached", it.words) for it in found]
-        shown = certified(mine.program, mine.room, self.given, unit, examiner.text, examiner.end) if not self.given.is_searched else None
-        self.say(VERIFIED, spots, True, shown)
+        self.say(VERIFIED, [Finding(it.line, it.column, "warning", "unreached", it.words) for it in found], is_whole=True)
 
     def help(self, examiner):
         """Looks for ways to mend the mistakes whose runs are small, which takes a while."""
@@ -143,15 +134,13 @@ class Unit:
         found = self.teller.open(label, why)
         return Finding(found.line, found.column, "warning", "undecided", f"undecided: {found.words}: {found.why}")
 
-    def say(self, verdict, more, is_whole, shown=None):
+    def say(self, verdict, more, is_whole):
         findings = sorted(self.findings, key=lambda it: (it.line, it.column)) + more
         if is_whole and self.more:
             words = f"{self.more} more error{'s' * (self.more > 1)} of `{self.unit.name}`"
             findings.append(Finding(self.unit.line, self.unit.column, "note", "errors", words))
         why = next((it.message for it in findings if it.code == "undecided"), "")
-        certificate = shown.certificate if shown else None
-        self.tell(Verdict(self.unit.name, verdict, why, tuple(findings), tuple(self.runs), certificate is not None, certificate,
-                          shown.why if shown else "", is_whole))
+        self.tell(Verdict(self.unit.name, verdict, why, tuple(findings), tuple(self.runs), False, is_whole))
 
 
 def examined(given, unit, settings, tell):
@@ -164,10 +153,10 @@ def examined(given, unit, settings, tell):
 
 def proved(unit) -> Verdict:
     """What is told of a unit that is proved."""
-    return Verdict(unit.name, VERIFIED, "", (), (), True, None, "", True)
+    return Verdict(unit.name, VERIFIED, "", (), (), True, True)
 
 
 def undecided(unit, why) -> Verdict:
     """What is told of a unit of which nothing is known."""
     finding = Finding(unit.line, unit.column, "warning", "undecided", f"undecided: `{unit.name}`: {why}")
-    return Verdict(unit.name, UNDECIDED, why, (finding,), (), False, None, "", True)
+    return Verdict(unit.name, UNDECIDED, why, (finding,), (), False, True)

@@ -23,15 +23,13 @@ class Finding(NamedTuple):
 
 class Verdict(NamedTuple):
     """What is known of a unit. `is_proved` tells whether that it is verified is a proved program's word, and `is_whole` that nothing more
-    will come; `certificate` is there where one was made for this unit alone, and `why_none` says why there is none."""
+    will come."""
     unit: str
     verdict: str
     why: str
     findings: Tuple[Finding, ...]
     runs: Tuple[ShownRun, ...]
     is_proved: bool
-    certificate: Optional[str]
-    why_none: str
     is_whole: bool
 
 

@@ -11,19 +11,18 @@ def lens(document, live, unit):
     """The lens above a unit: its words and its command."""
     verdict = live.verdict(unit.name)
     arguments = [document.uri, unit.name]
+    sought = ", more sought" if verdict is not None and not verdict.is_whole and live.is_open(unit.name) else ""
     if verdict is None:
         return ("stopped: check again" if live.stopped else "checking" if live.is_open(unit.name) else "not checked",
                 "remduska.checkAgain" if live.stopped else "", arguments)
     if verdict.verdict == "fails":
         count = sum([it.severity == "error" for it in verdict.findings])
         more = f", {count} errors" if count > 1 else ""
-        sought = ", more sought" if not verdict.is_whole and live.is_open(unit.name) else ""
         return f"fails{more}{sought}: show run", "remduska.showRun", arguments
     if verdict.verdict == "undecided":
         return "undecided: check again", "remduska.checkAgain", arguments
     if verdict.is_proved:
         return "proved: keep certificate", "remduska.keepCertificate", arguments
-    sought = ", certificate sought" if not verdict.is_whole and live.is_open(unit.name) else ""
     return f"verified, not proved{sought}", "", arguments
 
 

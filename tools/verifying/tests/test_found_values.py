@@ -113,23 +113,38 @@ class Taken(unittest.TestCase):
         self.assertEqual(self.examiner(FOUND, "2:1 2:2 false").possible(), ["2:1 2:2 false", "3:1 3:2 false"])
 
 
+class Answering(Program):
+    """A program that finds nothing, and notes which text it is asked of."""
+
+    def __init__(self, asked):
+        self.asked_of = asked
+
+    def values(self, file, seconds=None, is_boogie=False):
+        with open(file, "rb") as it:
+            self.asked_of.append((is_boogie, it.read()))
+        return {"M$b": "unit M$b\n", "b": "unit b\n"}
+
+
 class Asked(unittest.TestCase):
     def test_the_program_is_given_no_bodies_of_methods_that_are_proved(self):
         data = b"method a()\n{ assert true }\nmethod b() { assert false }\n"
         source, asked = Source("a.vpr", data), []
-
-        class Answering(Program):
-            def values(self, file):
-                with open(file, "rb") as it:
-                    asked.append(it.read())
-                return {"M$b": "unit M$b\n"}
-
         with tempfile.TemporaryDirectory() as room:
             units = [files.Unit("M$a", "a", 1, 8, "x"), files.Unit("M$b", "b", 3, 8, "x")]
             given = files.Given("a.vpr", os.path.join(room, "given.vpr"), None, "", False, True, frozenset(), units, None, "")
-            found = files.with_answers(given, source, Answering(None), {"b": "3:14 3:21 false"}, False)
-        self.assertEqual(asked, [b"method a()\n               \nmethod b() { assert false }\n"])
+            found = files.with_answers(given, source, Answering(asked), {"b": "3:14 3:21 false"}, False)
+        self.assertEqual(asked, [(False, b"method a()\n               \nmethod b() { assert false }\n")])
         self.assertEqual([(it.is_proved, it.values, it.first_open) for it in found.units], [(True, None, ""), (False, "unit M$b\n", "3:14 3:21 false")])
+
+    def test_of_boogie_it_is_given_no_procedures_that_are_proved(self):
+        asked = []
+        with tempfile.TemporaryDirectory() as room:
+            units = [files.Unit(name, name, 1, 1, f"procedure {name}() {{\n}}\n") for name in "abc"]
+            given = files.Given("a.bpl", os.path.join(room, "given.bpl"), None, "type Ref;\n", True, True, frozenset(), units, None, "")
+            found = files.with_answers(given, Source("a.bpl", b""), Answering(asked), {"b": "1:1 1:1 false", "c": ""}, False)
+        self.assertEqual(asked, [(True, b"type Ref;\nprocedure b() {\n}\nprocedure c() {\n}\n")])
+        self.assertEqual([(it.is_proved, it.values, it.first_open) for it in found.units],
+                         [(True, None, ""), (False, "unit b\n", "1:1 1:1 false"), (False, None, "")])
 
     def test_a_call_that_went_wrong_finds_nothing(self):
         for said in (Said(2, "", "usage"), Said(5, "unit M$a\n", ""), Said(-9, "unit M$a\n", "")):
@@ -158,6 +173,12 @@ class WithoutZ3(unittest.TestCase):
         for name in names:
             with open(os.path.join(checking.ERRORS, f"{name}.txt"), encoding="utf-8") as it:
                 self.assertEqual(self.verify(f"examples/errors/{name}.vpr"), it.read())
+
+    def test_programs_of_boogie_are_proved_and_their_runs_are_found(self):
+        self.assertEqual(self.verify("examples/dice.bpl"), "examples/dice.bpl: proved, 1 unit\n")
+        out = self.verify("examples/dice_wrong.bpl")
+        self.assertIn("examples/dice_wrong.bpl:39:21: error: ", out)
+        self.assertIn("\nboogie run sixes\n", out)
 
     def test_a_run_is_shown_in_which_each_instance_can_be_opened(self):
         out = self.verify("examples/list_wrong.vpr")

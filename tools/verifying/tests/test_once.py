@@ -12,8 +12,7 @@ from verifying import spots
 from verifying.files import Given, Unit
 from verifying.keeping import Keeper
 from verifying.program import TOP
-from verifying.results import Error, Label, Result
-from verifying.certifying import Certified
+from verifying.results import Error, Label
 from verifying.source import Source
 
 READY = bool(os.environ.get("REMDUSKA")) and shutil.which("z3") is not None
@@ -127,14 +126,10 @@ class Kept(unittest.TestCase):
         self.assertEqual([keeper.stem(it) for it in ("./a.vpr", "../a.vpr", ".a.vpr", "b/../a.vpr", "...", "<stdin>")],
                          ["a.vpr", "_a.vpr", "a.vpr-2", "a.vpr-3", "file", "_stdin_"])
 
-    def test_an_old_certificate_of_a_unit_that_fails_now_is_removed(self):
-        path = os.path.join(self.room, "a.vpr.m.cert")
-        result = Result("m", "verified", "", [], [], ["z3"], Certified("certificate M$m\n", ""), 0.0)
-        Keeper(self.room).certified(self.given("a.vpr"), self.unit, result)
-        self.assertTrue(os.path.exists(path))
+    def test_runs_are_kept_beside_the_text(self):
         label = Label("1:2 3:4 perm", True, "", "", "", "", 1, 1, 1, "viper run\n", None, [], [], [])
         Keeper(self.room).error(self.given("a.vpr"), self.unit, Error([label], (1, 1), []))
-        self.assertEqual((os.path.exists(path), os.path.exists(os.path.join(self.room, "a.vpr.m.1-2-3-4-perm.run"))), (False, True))
+        self.assertEqual(sorted(os.listdir(self.room)), ["a.vpr.m.1-2-3-4-perm.run", "a.vpr.text.bpl", "text"])
 
 
 if __name__ == "__main__":
