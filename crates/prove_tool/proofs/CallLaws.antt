@@ -1,9 +1,12 @@
 -- How a call ends, by how the command ends that its words ask for.
-use Rattle.std.proofs.Common.{◌≡◌, ◌∙◌, ◌⊎◌, inl, inr, ℕ, List, [], Option, None, Some, Result, Ok, Err, MatchResult, refl, sym, subst}
+use Rattle.std.proofs.Common.{◌≡◌, ◌∙◌, ◌⊎◌, inl, inr, ◌+◌, ◌<◌, ◌≤◌, ℕ, zero, suc, Bool, List, [], Option, None, Some, Result, Ok, Err, IsTrue, MatchResult, refl, sym, ap, subst, arith}
+use Rattle.std.proofs.lemmas.Bool.{and_parts}
+use Rattle.std.specs.Prelude.{true, false}
 use Rattle.lemmas.proofs.Options.{some_same, none_some}
 use Rattle.vb_outer.specs.Faults.{Rose}
 use Rattle.vb_outer.specs.Shelf.{Files, IsMissing, IsFile, IsWhole}
 use Rattle.vb_outer.specs.Sink.{Appends, AppendsPrefix}
+use Rattle.unit_proof.specs.Shown.{NeverFails}
 use Rattle.tool_common.specs.Ends.{CauseOf, EndsAs, as_expected, fault, Stops, OutOf, ErrOf, FrontWritten}
 use Rattle.tool_common.specs.Kind as kind
 use Rattle.tool_common.specs.Written.{Reports}
@@ -15,14 +18,15 @@ use Rattle.prove_tool.specs.Command as command
 use Rattle.prove_tool.specs.Ends as ends
 use Rattle.prove_tool.specs.Ends.{Answers, Causes, Ends, written, unwritten, no_memory, OutAfter, ErrAfter}
 use Rattle.prove_tool.specs.Status.{kind_of, line_of}
-use Rattle.prove_tool.specs.Written.{Accepts, AreAnswersOf, IsTold, IsThere, NothingFailsIn, Tells, Writes, HasWritten, HasBegun}
+use Rattle.prove_tool.specs.Subject.{Subject, count_of, UnitFails}
+use Rattle.prove_tool.specs.Written.{Accepts, AreAnswersOf, AreFound, IsFound, IsTold, IsThere, NothingFailsIn, Tells, Writes, HasWritten, HasBegun}
 use Rattle.prove_tool.specs.Written as w
 use Rattle.prove_tool.specs.declared.language.Language.{Language}
 use Rattle.prove_tool.specs.declared.refusal.ProveRefusal.{ProveRefusal}
 use Rattle.prove_tool.specs.declared.status.ProveStatus.{ProveStatus}
 use Rattle.prove_tool.specs.declared.status.ProveStatus.TheVariants as status
 use Rattle.prove_tool.proofs.FileLaws.{there_not_missing, accepted_not_missing, refused_not_missing, refusals_same, refused_not_accepted, accepted_not_refused_again}
-use Rattle.prove_tool.proofs.SubjectLaws.{answered_accepted, shown_accepted, nothing_fails}
+use Rattle.prove_tool.proofs.SubjectLaws.{answered_accepted, all_fine, nothing_fails}
 
 -- ---- what is written
 
@@ -53,21 +57,50 @@ told_accepts {l = l} h =
 writes_accepts : {files : Option Files} {c : Command} {s : ProveStatus} {text : List ℕ} → Writes files c s text → Accepts (IsWhole files) (language_of c) (file_of c)
 writes_accepts (w.searched h) = told_accepts h
 writes_accepts (w.checked h there) = told_accepts h
-writes_accepts (w.found {l = l} h) =
-    let accepted = shown_accepted h.bytes l h.shown in
-    record { program = accepted.0; of = record { bytes = h.bytes; is = h.is; accepted = accepted.1 } }
-writes_accepts (w.not_found h) = h
+writes_accepts (w.found h) = record { program = h.program; of = h.of }
+writes_accepts (w.not_found h) = record { program = h.program; of = h.of }
 writes_accepts (w.stated h) = record { program = h.program; of = h.of }
 writes_accepts (w.valued h) = h
 
--- and where a proof is done, nothing of it fails
+-- ---- where a proof is done, nothing fails
+
+below_or_same : (m j : ℕ) → m ≤ j → (m < j) ⊎ (m ≡ j)
+below_or_same zero zero h = inr refl
+below_or_same zero (suc j) h = inl (omega arith)
+below_or_same (suc m) zero h = absurd (omega (arith, h))
+below_or_same (suc m) (suc j) h = next (below_or_same m j (omega (arith, h)))
+  where
+    next : (m < j) ⊎ (m ≡ j) → (suc m < suc j) ⊎ (suc m ≡ suc j)
+    next (inl less) = inl (omega (arith, less))
+    next (inr same) = inr (ap suc same)
+
+module _ (program : Subject) where
+  one_more_shown : (k : ℕ) → ((n : ℕ) → n < k → NeverFails (UnitFails program) n) → NeverFails (UnitFails program) k → (n : ℕ) → n < k + 1 → NeverFails (UnitFails program) n
+  one_more_shown k before this n within = by_case (below_or_same n k (omega (arith, within)))
+    where
+      by_case : (n < k) ⊎ (n ≡ k) → NeverFails (UnitFails program) n
+      by_case (inl less) = before n less
+      by_case (inr same) = subst (NeverFails (UnitFails program)) (sym same) this
+
+  one_shown : (n : ℕ) (found : Bool) (text : List ℕ) → IsFound program n found text → IsTrue found → NeverFails (UnitFails program) n
+  one_shown n true text h flag = h
+  one_shown n false text h flag = absurd (cc)
+
+  -- where none of the first units is left open, no run of one fails
+  all_shown : {k : ℕ} {all : Bool} {text : List ℕ} → AreFound program k all text → IsTrue all → (n : ℕ) → n < k → NeverFails (UnitFails program) n
+  all_shown w.no_unit flag n within = absurd (omega (arith, within))
+  all_shown (w.one_unit_more {n = k} {all = all} found text exists before this) flag n within =
+      let both = and_parts all found flag in
+      one_more_shown k (all_shown before both.0) (one_shown k found text this both.1) n within
+
 told_nothing_fails : {Has : List ℕ → List ℕ → Type 0} {l : Language} {file text : List ℕ} → IsTold Has l file status.Done text → NothingFailsIn Has l file
 told_nothing_fails {l = l} h = let a = h.of in record { bytes = a.bytes; is = a.is; shown = nothing_fails a.bytes l h.answers a.answered h.tells }
 
 writes_nothing_fails : {files : Option Files} {c : Command} {text : List ℕ} → IsProof c → Writes files c status.Done text → NothingFailsIn (IsWhole files) (language_of c) (file_of c)
 writes_nothing_fails command.prove (w.searched h) = told_nothing_fails h
 writes_nothing_fails command.certify (w.checked h there) = told_nothing_fails h
-writes_nothing_fails command.certificates (w.found h) = h
+writes_nothing_fails command.certificates (w.found {l = l} h) =
+    let of = h.of in record { bytes = of.bytes; is = of.is; shown = all_fine of.bytes l h.program of.accepted (all_shown h.program h.found refl) }
 
 -- ---- how a call ends
 

@@ -1,7 +1,6 @@
 -- What is written comes to, by what its parts write.
 use Rattle.std.proofs.Common.{◌≡◌, ◌∙◌, ◌⊎◌, inl, inr, ◌+◌, ◌<◌, ◌≤◌, ◌++◌, ◌&&◌, ◌↔◌, ℕ, zero, suc, Bool, List, Option, Some, Result, Ok, Err, IfOk, IsTrue, refl, sym, ap, subst, arith}
-use Rattle.std.proofs.lemmas.Bool.{and_parts}
-use Rattle.std.specs.Prelude.{⊤, All}
+use Rattle.std.specs.Prelude.{⊤, All, true, false}
 use Rattle.vb_outer.specs.Faults.{Rose}
 use Rattle.vb_outer.specs.Shelf.{Files, IsWhole}
 use Rattle.vb_outer.specs.Sink.{Appends, AppendsPrefix}
@@ -24,18 +23,17 @@ use Rattle.prove_tool.specs.Call as call
 use Rattle.prove_tool.specs.Call.{StopsAt, StopsAtFile, StopsAtCheck, IsCause}
 use Rattle.prove_tool.specs.Command.{Command, Prove, Certificates, Certify, Conditions, Values, command_for}
 use Rattle.prove_tool.specs.Ends as ends
-use Rattle.prove_tool.specs.Ends.{Ends, AreLines, AreFound, AreConditions, AreValues, CarriesOut, Answers}
+use Rattle.prove_tool.specs.Ends.{Ends, AreLines, AreCertificates, AreConditions, AreValues, CarriesOut, Answers}
 use Rattle.prove_tool.specs.Lines.{lines_text}
 use Rattle.prove_tool.specs.Parts as part
 use Rattle.prove_tool.specs.Parts.{StopsAtSink}
 use Rattle.prove_tool.specs.Status.{kind_of}
-use Rattle.prove_tool.specs.Subject.{Subject, count_of, UnitFails, IsProcedureName, AreBuilt, NoUnitFails}
+use Rattle.prove_tool.specs.Subject.{Subject, count_of, UnitFails, IsProcedureName, AreBuilt}
 use Rattle.prove_tool.specs.Written as w
-use Rattle.prove_tool.specs.Written.{AreAnswersOf, AreConditionsOf, AreFirst, IsProgramOf, IsThere, Tells, Writes, Begins, HasWritten, HasBegun}
+use Rattle.prove_tool.specs.Written.{AreAnswersOf, AreConditionsOf, AreFirst, AreFound, IsFound, IsProgramOf, IsThere, Tells, Writes, Begins, HasWritten, HasBegun}
 use Rattle.prove_tool.specs.declared.language.Language.{Language}
 use Rattle.prove_tool.specs.declared.status.ProveStatus.{ProveStatus}
 use Rattle.prove_tool.specs.declared.status.ProveStatus.TheVariants as status
-use Rattle.prove_tool.proofs.SubjectLaws.{all_fine}
 
 -- ---- the same under weaker names
 
@@ -98,11 +96,12 @@ module _ {files : Option Files} {l : Language} {file : List ℕ} {answers : List
 
 -- ---- the conditions of a unit
 
-pub are_conditions : {E : Type 0} (program : Subject) (n : ℕ) (name : List ℕ) (x : f.Conditions) → IsTypedConditions x → IsProcedureName program n name → AreBuilt program n x →
+pub are_conditions : {E : Type 0} (program : Subject) (n : ℕ) (name : List ℕ) (x : f.Conditions) → n < count_of program → IsTypedConditions x → IsProcedureName program n name → AreBuilt program n x →
     ((label : Label) → UnitFails program n label ↔ CanFail x label) → (r : Result (Vec ℕ Global) E) → IfOk r (λ text. text.items ≡ conditions_text name x) →
     IfOk r (λ text. SpellsConditions text.items name x) → IfOk r (λ text. (m : List ℕ) (y : f.Conditions) → SpellsConditions text.items m y → (m ≡ name) × (y ≡ x)) →
     IfOk r (λ text. AreConditionsOf program n text.items)
-are_conditions program n name x typed is_name built exact (Ok text) is spelled only = record {
+are_conditions program n name x exists typed is_name built exact (Ok text) is spelled only = record {
+  exists = exists;
   conditions = x;
   typed = typed;
   name = name;
@@ -113,30 +112,9 @@ are_conditions program n name x typed is_name built exact (Ok text) is spelled o
   built = built;
   exact = exact;
 }
-are_conditions program n name x typed is_name built exact (Err e) is spelled only = tt
+are_conditions program n name x exists typed is_name built exact (Err e) is spelled only = tt
 
 -- ---- unit by unit
-
-below_or_same : (m j : ℕ) → m ≤ j → (m < j) ⊎ (m ≡ j)
-below_or_same zero zero h = inr refl
-below_or_same zero (suc j) h = inl (omega arith)
-below_or_same (suc m) zero h = absurd (omega (arith, h))
-below_or_same (suc m) (suc j) h = next (below_or_same m j (omega (arith, h)))
-  where
-    next : (m < j) ⊎ (m ≡ j) → (suc m < suc j) ⊎ (suc m ≡ suc j)
-    next (inl less) = inl (omega (arith, less))
-    next (inr same) = inr (ap suc same)
-
-pub all_shown : (program : Subject) (k : ℕ) (all found : Bool) → (IsTrue all → (n : ℕ) → n < k → NeverFails (UnitFails program) n) → (IsTrue found → NeverFails (UnitFails program) k) →
-    IsTrue (all && found) → (n : ℕ) → n < k + 1 → NeverFails (UnitFails program) n
-all_shown program k all found before this both n within = by_case (below_or_same n k (omega (arith, within)))
-  where
-    by_case : (n < k) ⊎ (n ≡ k) → NeverFails (UnitFails program) n
-    by_case (inl less) = before (and_parts all found both).0 n less
-    by_case (inr same) = subst (NeverFails (UnitFails program)) (sym same) (this (and_parts all found both).1)
-
-pub none_fails : (program : Subject) (k : ℕ) → count_of program ≤ k → ((n : ℕ) → n < k → NeverFails (UnitFails program) n) → NoUnitFails program
-none_fails program k many shown = λ n within. shown n (omega (arith, within, many))
 
 pub front_more : (program : Subject) (n : ℕ) (before between now : Option (List ℕ)) (text : List ℕ) → AreFirst program n text → Appends before between text →
     FrontWritten between now (AreConditionsOf program n) → FrontWritten before now (λ t. (m : ℕ) × AreFirst program m t)
@@ -144,19 +122,27 @@ front_more program n before between now text are appends (inl same) = inr (text,
 front_more program n before between now text are appends (inr (more, is, front)) =
     inr (text ++ more, (n + 1, w.one_more are is), prefix_after before between now text more appends front)
 
+pub front_found : (program : Subject) (n : ℕ) (all : Bool) (before between now : Option (List ℕ)) (text : List ℕ) → n < count_of program → AreFound program n all text → Appends before between text →
+    FrontWritten between now (IsFound program n true) → FrontWritten before now (λ t. (m : ℕ) × (every : Bool) × AreFound program m every t)
+front_found program n all before between now text exists are appends (inl same) =
+    inr (text, (n, all, are), prefix_all before now text (subst (λ x. Appends before x text) (sym same) appends))
+front_found program n all before between now text exists are appends (inr (more, is, front)) =
+    inr (text ++ more, (n + 1, (all && true), w.one_unit_more true more exists are is), prefix_after before between now text more appends front)
+
 module _ {files : Option Files} {l : Language} {file : List ℕ} {program : Subject} (of : IsProgramOf (IsWhole files) l file program) where
-  found_writes : (steps : Option ℕ) (s : ProveStatus) (text : List ℕ) → AreFound program s text → Writes files (Certificates l file steps) s text
-  found_writes steps status.Done text none = w.found (record { bytes = of.bytes; is = of.is; shown = all_fine of.bytes l program of.accepted none })
-  found_writes steps status.Open text h = w.not_found (record { program = program; of = of })
+  found_writes : (steps : Option ℕ) (s : ProveStatus) (text : List ℕ) → AreCertificates program s text → Writes files (Certificates l file steps) s text
+  found_writes steps status.Done text h = w.found (record { program = program; of = of; found = h })
+  found_writes steps status.Open text h = w.not_found (record { program = program; of = of; found = h })
   found_writes steps (status.Refused r) text h = absurd h
   found_writes steps status.Usage text h = absurd h
   found_writes steps status.ReadFault text h = absurd h
   found_writes steps status.WriteFault text h = absurd h
   found_writes steps status.NoMemory text h = absurd h
 
-  pub certificates_found : {before now : Option (List ℕ)} {first last : ℕ} (steps : Option ℕ) (s : ProveStatus) → Ends (AreFound program) (λ _. ⊤) before now first last s →
+  pub certificates_found : {before now : Option (List ℕ)} {first last : ℕ} (steps : Option ℕ) (s : ProveStatus) →
+      Ends (AreCertificates program) (λ text. (n : ℕ) × (all : Bool) × AreFound program n all text) before now first last s →
       Ends (Writes files (Certificates l file steps)) (Begins files (Certificates l file steps)) before now first last s
-  certificates_found steps = ends_mapped (found_writes steps) (λ t h. w.certificates (record { program = program; of = of }))
+  certificates_found steps = ends_mapped (found_writes steps) (λ t h. w.first_found (record { program = program; of = of; first = h.2 }))
 
   conditions_write : (s : ProveStatus) (text : List ℕ) → AreConditions program s text → Writes files (Conditions l file) s text
   conditions_write s text h = subst (λ r. Writes files (Conditions l file) r text) (sym h.0) (w.stated (record { program = program; of = of; all = h.1 }))

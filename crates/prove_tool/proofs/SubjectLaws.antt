@@ -40,14 +40,10 @@ boogie_built q n (Err e) built follows = tt
 -- ---- what is told of bytes
 
 module _ (bytes : List ℕ) where
-  -- what is answered, or does not fail, is accepted as some program
+  -- what is answered is accepted as some program
   pub answered_accepted : (l : Language) (answers : List UnitAnswer) → IsAnswered bytes l answers → (p : Subject) × IsAcceptedAs bytes l p
   answered_accepted Viper answers h = (OfViper h.program, h.accepted)
   answered_accepted Boogie answers h = (OfBoogie h.program, h.accepted)
-
-  pub shown_accepted : (l : Language) → NothingFails bytes l → (p : Subject) × IsAcceptedAs bytes l p
-  shown_accepted Viper h = (OfViper h.program, h.accepted)
-  shown_accepted Boogie h = (OfBoogie h.program, h.accepted)
 
   -- where each unit is proved, nothing fails
   pub nothing_fails : (l : Language) (answers : List UnitAnswer) → IsAnswered bytes l answers → All IsProved answers → NothingFails bytes l

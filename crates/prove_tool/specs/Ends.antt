@@ -1,5 +1,5 @@
 -- What stands in the sinks afterwards.
-use Rattle.std.specs.Prelude.{⊤, ◌≡◌, ℕ, List, Option, Result, MatchResult}
+use Rattle.std.specs.Prelude.{⊤, ◌≡◌, ℕ, true, false, List, Option, Result, MatchResult}
 use Rattle.vb_outer.specs.Faults.{Rose}
 use Rattle.vb_outer.specs.Shelf.{Files}
 use Rattle.vb_outer.specs.Sink.{Appends}
@@ -10,8 +10,8 @@ use Rattle.prove_tool.specs.Call.{IsCause, StopsAt}
 use Rattle.prove_tool.specs.Command.{Command}
 use Rattle.prove_tool.specs.Lines.{lines_text}
 use Rattle.prove_tool.specs.Status.{kind_of, line_of}
-use Rattle.prove_tool.specs.Subject.{Subject, count_of, NoUnitFails}
-use Rattle.prove_tool.specs.Written.{AreFirst, Tells, Writes, Begins, HasWritten, HasBegun}
+use Rattle.prove_tool.specs.Subject.{Subject, count_of}
+use Rattle.prove_tool.specs.Written.{AreFirst, AreFound, Tells, Writes, Begins, HasWritten, HasBegun}
 use Rattle.prove_tool.specs.declared.status.ProveStatus.{ProveStatus}
 use Rattle.prove_tool.specs.declared.status.ProveStatus.TheVariants.{Done, Refused, Usage, ReadFault, WriteFault, NoMemory, Open}
 
@@ -46,15 +46,15 @@ pub data Ends (Whole : ProveStatus → List ℕ → Type 0) (Part : List ℕ →
 abbrev pub AreLines : List UnitAnswer → ProveStatus → List ℕ → Type 0
 AreLines answers s text = Tells answers s × (text ≡ lines_text answers)
 
--- each unit is proved where the call is done; the text is any
-abbrev pub AreFound : Subject → ProveStatus → List ℕ → Type 0
-AreFound program Done text = NoUnitFails program
-AreFound program Open text = ⊤
-AreFound program (Refused r) text = ⊥
-AreFound program Usage text = ⊥
-AreFound program ReadFault text = ⊥
-AreFound program WriteFault text = ⊥
-AreFound program NoMemory text = ⊥
+-- what is written of all units, of which one is left open where the call is not done
+abbrev pub AreCertificates : Subject → ProveStatus → List ℕ → Type 0
+AreCertificates program Done text = AreFound program (count_of program) true text
+AreCertificates program Open text = AreFound program (count_of program) false text
+AreCertificates program (Refused r) text = ⊥
+AreCertificates program Usage text = ⊥
+AreCertificates program ReadFault text = ⊥
+AreCertificates program WriteFault text = ⊥
+AreCertificates program NoMemory text = ⊥
 
 -- the conditions of all units
 abbrev pub AreConditions : Subject → ProveStatus → List ℕ → Type 0

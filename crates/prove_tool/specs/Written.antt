@@ -1,5 +1,5 @@
 -- What a call writes.
-use Rattle.std.specs.Prelude.{◌≡◌, ◌↔◌, ◌+◌, ◌++◌, ℕ, List, [], All, Option, Some}
+use Rattle.std.specs.Prelude.{◌≡◌, ◌↔◌, ◌<◌, ◌+◌, ◌++◌, ◌&&◌, ℕ, Bool, true, false, List, [], All, Option, Some}
 use Rattle.vb_base.specs.declared.labels.Label.{Label}
 use Rattle.vb_outer.specs.Shelf.{Files, IsWhole}
 use Rattle.boogie_formula.specs.Formula as f
@@ -7,7 +7,7 @@ use Rattle.boogie_formula.specs.Types.{IsTypedConditions}
 use Rattle.boogie_formula.specs.Value.{CanFail}
 use Rattle.boogie_formula_text.specs.Printed.{conditions_text}
 use Rattle.boogie_formula_text.specs.Spells.{SpellsConditions}
-use Rattle.unit_proof.specs.Shown.{IsProved}
+use Rattle.unit_proof.specs.Shown.{NeverFails, IsProved}
 use Rattle.unit_proof.specs.declared.answers.UnitAnswer.{UnitAnswer}
 use Rattle.prove_tool.specs.Command.{Command, Prove, Certificates, Certify, Conditions, Values, command_for}
 use Rattle.prove_tool.specs.Lines.{lines_text}
@@ -70,6 +70,7 @@ pub record IsTold (Has : List ℕ → List ℕ → Type 0) (l : Language) (file 
 -- The text spells the conditions of the unit of this number, from 0 on, and no others. An assertion of them can fail with a label exactly
 -- where some run of the unit fails at the label.
 pub record AreConditionsOf (program : Subject) (n : ℕ) (text : List ℕ) : Type 0 where
+  pub exists : n < count_of program
   pub conditions : f.Conditions
   pub typed : IsTypedConditions conditions
   pub name : List ℕ
@@ -97,6 +98,32 @@ pub record AreAllOf (Has : List ℕ → List ℕ → Type 0) (l : Language) (fil
   pub of : IsProgramOf Has l file program
   pub all : AreFirst program (count_of program) text
 
+-- ---- certificates
+
+-- what is written of the unit of this number: where one was accepted, a certificate, and no run of the unit fails; else it is left
+-- open, and nothing is written
+abbrev pub IsFound : Subject → ℕ → Bool → List ℕ → Type 0
+IsFound program n true text = NeverFails (UnitFails program) n
+IsFound program n false text = text ≡ []
+
+-- the text is what is written of the first units, so many, one behind the other, and this tells whether none of them is left open
+pub data AreFound (program : Subject) : ℕ → Bool → List ℕ → Type 0 where
+  no_unit : AreFound program 0 true []
+  one_unit_more : {n : ℕ} {all : Bool} {front : List ℕ} (found : Bool) (text : List ℕ) → n < count_of program → AreFound program n all front → IsFound program n found text →
+      AreFound program (n + 1) (all && found) (front ++ text)
+
+-- it is accepted, and the text is what is written of its first units, so many
+pub record AreFirstFound (Has : List ℕ → List ℕ → Type 0) (l : Language) (file : List ℕ) (n : ℕ) (all : Bool) (text : List ℕ) : Type 0 where
+  pub program : Subject
+  pub of : IsProgramOf Has l file program
+  pub first : AreFound program n all text
+
+-- it is accepted, the text is what is written of all its units, and this tells whether none of them is left open
+pub record AreAllFound (Has : List ℕ → List ℕ → Type 0) (l : Language) (file : List ℕ) (all : Bool) (text : List ℕ) : Type 0 where
+  pub program : Subject
+  pub of : IsProgramOf Has l file program
+  pub found : AreFound program (count_of program) all text
+
 -- ---- what a command writes
 
 -- a command that is carried out ends with this status and writes this text
@@ -104,15 +131,16 @@ pub data Writes (files : Option Files) : Command → ProveStatus → List ℕ �
   searched : {l : Language} {file text : List ℕ} {steps : Option ℕ} {s : ProveStatus} → IsTold (IsWhole files) l file s text → Writes files (Prove l file steps) s text
   checked : {l : Language} {file certificates text : List ℕ} {s : ProveStatus} → IsTold (IsWhole files) l file s text → IsThere (IsWhole files) certificates →
       Writes files (Certify l file certificates) s text
-  found : {l : Language} {file text : List ℕ} {steps : Option ℕ} → NothingFailsIn (IsWhole files) l file → Writes files (Certificates l file steps) Done text
-  not_found : {l : Language} {file text : List ℕ} {steps : Option ℕ} → Accepts (IsWhole files) l file → Writes files (Certificates l file steps) Open text
+  found : {l : Language} {file text : List ℕ} {steps : Option ℕ} → AreAllFound (IsWhole files) l file true text → Writes files (Certificates l file steps) Done text
+  not_found : {l : Language} {file text : List ℕ} {steps : Option ℕ} → AreAllFound (IsWhole files) l file false text → Writes files (Certificates l file steps) Open text
   stated : {l : Language} {file text : List ℕ} → AreAllOf (IsWhole files) l file text → Writes files (Conditions l file) Done text
   valued : {l : Language} {file text : List ℕ} {steps : Option ℕ} → Accepts (IsWhole files) l file → Writes files (Values l file steps) Done text
 
 -- and it writes a front of such a text, where it does not come to its end
 pub data Begins (files : Option Files) : Command → List ℕ → Type 0 where
   whole : {c : Command} {s : ProveStatus} {text : List ℕ} → Writes files c s text → Begins files c text
-  certificates : {l : Language} {file text : List ℕ} {steps : Option ℕ} → Accepts (IsWhole files) l file → Begins files (Certificates l file steps) text
+  first_found : {l : Language} {file text : List ℕ} {steps : Option ℕ} {n : ℕ} {all : Bool} → AreFirstFound (IsWhole files) l file n all text →
+      Begins files (Certificates l file steps) text
   first_conditions : {l : Language} {file text : List ℕ} {n : ℕ} → AreFirstOf (IsWhole files) l file n text → Begins files (Conditions l file) text
   values : {l : Language} {file text : List ℕ} {steps : Option ℕ} → Accepts (IsWhole files) l file → Begins files (Values l file steps) text
 

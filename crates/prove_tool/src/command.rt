@@ -1,15 +1,15 @@
 // From the words of a call to what it writes and the status it ends with.
-ghost use Rattle.std.specs.Prelude.{⊤, ◌≡◌, ◌⊎◌, ℕ, List, None, Some, map, MatchResult};
+ghost use Rattle.std.specs.Prelude.{⊤, ◌≡◌, ◌⊎◌, ℕ, Bool, List, None, Some, map, MatchResult};
 ghost use Rattle.std.specs.String.{string_bytes};
 ghost use Rattle.vb_outer.specs.Faults.{Rose};
 ghost use Rattle.vb_outer.specs.Shelf.{IsFile, IsMissing, IsWhole};
 ghost use Rattle.tool_common.specs.Written.{Reports};
 ghost use Rattle.prove_tool.specs.Call.{IsCause, Refuses};
 ghost use Rattle.prove_tool.specs.Command.{Command, Prove, Certificates, Certify, Conditions, Values, IsProof, command_for, file_of, language_of};
-ghost use Rattle.prove_tool.specs.Ends.{Answers, AreConditions, AreFound, AreLines, AreValues, CarriesOut, Causes, Ends, EndsAs, ErrAfter, OutAfter};
+ghost use Rattle.prove_tool.specs.Ends.{Answers, AreCertificates, AreConditions, AreLines, AreValues, CarriesOut, Causes, Ends, EndsAs, ErrAfter, OutAfter};
 ghost use Rattle.prove_tool.specs.Parts.{IsSound, command_of, subject_of};
 ghost use Rattle.prove_tool.specs.Status.{kind_of, line_of};
-ghost use Rattle.prove_tool.specs.Written.{Accepts, AreFirst, NothingFailsIn, Tells};
+ghost use Rattle.prove_tool.specs.Written.{Accepts, AreFirst, AreFound, NothingFailsIn, Tells};
 
 use crate::checking::checked;
 use crate::language::Language;
@@ -251,7 +251,8 @@ fn certificates_of<O: Sink>(
     out: &mut O,
 ) -> ProveStatus
     requires { IsSound (subject_of program.now) }
-    ensures { Ends (AreFound (subject_of program.now)) (λ _. ⊤) (O.written out.old) (O.written out.new) (O.faults out.old) (O.faults out.new) result }
+    ensures { Ends (AreCertificates (subject_of program.now)) (λ text. (n : ℕ) × (all : Bool) × AreFound (subject_of program.now) n all text)
+        (O.written out.old) (O.written out.new) (O.faults out.old) (O.faults out.new) result }
 {
     match write_certificates(alloc, program, search, out) {
         Ok(true) => ProveStatus::Done,

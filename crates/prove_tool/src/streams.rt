@@ -1,11 +1,11 @@
 // What is written unit by unit.
-ghost use Rattle.std.specs.Prelude.{◌≡◌, ◌<◌, ◌≤◌, ◌&&◌, ℕ, List, IfErr, IfOk, IsSome, IsTrue, OnErr, OnOk};
+ghost use Rattle.std.specs.Prelude.{◌≡◌, ◌<◌, ◌≤◌, ◌&&◌, ℕ, Bool, true, List, IfErr, IfOk, IsSome, OnErr, OnOk};
 ghost use Rattle.vb_outer.specs.Sink.{Appends};
 ghost use Rattle.unit_proof.specs.Shown.{NeverFails};
 ghost use Rattle.tool_common.specs.Ends.{FrontWritten};
 ghost use Rattle.prove_tool.specs.Parts.{IsSound, StopsAtSink, subject_of};
-ghost use Rattle.prove_tool.specs.Subject.{NoUnitFails, UnitFails, count_of};
-ghost use Rattle.prove_tool.specs.Written.{AreConditionsOf, AreFirst};
+ghost use Rattle.prove_tool.specs.Subject.{UnitFails, count_of};
+ghost use Rattle.prove_tool.specs.Written.{AreConditionsOf, AreFirst, AreFound, IsFound};
 
 use crate::searching::Search;
 use crate::status::ProveStatus;
@@ -37,7 +37,7 @@ fn certificate(
     }
 }
 
-/// Writes the certificate that a search finds of the unit of this number, and answers whether there is one.
+/// Writes the certificate that a search finds of the unit of this number, if it is accepted, and answers whether it is.
 fn write_certificate<O: Sink>(
     alloc: Global,
     program: &Subject,
@@ -47,8 +47,9 @@ fn write_certificate<O: Sink>(
 ) -> Result<bool, ProveStatus>
     requires sound { IsSound (subject_of program.now) }
     requires exists { unit < count_of (subject_of program.now) }
-    ensures shown { IfOk result (λ found. IsTrue found → NeverFails (UnitFails (subject_of program.now)) unit) }
-    ensures written { (text : List ℕ) × Appends (O.written out.old) (O.written out.new) text }
+    ensures whole { IfOk result (λ found. (text : List ℕ) × IsFound (subject_of program.now) unit found text
+        × Appends (O.written out.old) (O.written out.new) text) }
+    ensures front { OnErr result (FrontWritten (O.written out.old) (O.written out.new) (IsFound (subject_of program.now) unit true)) }
     ensures stops { IfErr result (StopsAtSink (O.faults out.old) (O.faults out.new)) }
     ensures later { O.faults out.old ≤ O.faults out.new }
 {
@@ -68,7 +69,8 @@ fn both(first: bool, second: bool) -> bool
     first && second
 }
 
-/// Writes the certificates that a search finds, each once it is accepted, and answers whether there is one of each unit.
+/// Writes the certificates that a search finds, each once it is accepted, and answers whether one is of each unit. Of a unit that is
+/// left open nothing is written.
 pub fn write_certificates<O: Sink>(
     alloc: Global,
     program: &Subject,
@@ -76,8 +78,10 @@ pub fn write_certificates<O: Sink>(
     out: &mut O,
 ) -> Result<bool, ProveStatus>
     requires { IsSound (subject_of program.now) }
-    ensures shown { IfOk result (λ all. IsTrue all → NoUnitFails (subject_of program.now)) }
-    ensures written { (text : List ℕ) × Appends (O.written out.old) (O.written out.new) text }
+    ensures whole { IfOk result (λ all. (text : List ℕ) × AreFound (subject_of program.now) (count_of (subject_of program.now)) all text
+        × Appends (O.written out.old) (O.written out.new) text) }
+    ensures front { OnErr result (FrontWritten (O.written out.old) (O.written out.new)
+        (λ text. (n : ℕ) × (all : Bool) × AreFound (subject_of program.now) n all text)) }
     ensures stops { IfErr result (StopsAtSink (O.faults out.old) (O.faults out.new)) }
     ensures later { O.faults out.old ≤ O.faults out.new }
 {
