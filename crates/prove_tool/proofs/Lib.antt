@@ -3,4 +3,5 @@ pub mod FileLaws
 pub mod StopLaws
 pub mod StreamLaws
 pub mod SubjectLaws
+pub mod TranslationLaws
 pub mod WordLaws

@@ -6,6 +6,7 @@
 mod checking;
 mod command;
 mod language;
+pub mod laws;
 mod lines;
 mod reading;
 mod refusal;
